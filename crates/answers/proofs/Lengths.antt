@@ -1,9 +1,9 @@
 -- How long numbers and lines are at most. Assumes nothing.
 --
---   byte-most, half-most   3 digits for a byte, 5 for a number of 16 bits
---   decimal-short   20 for any number, since no more are written
---   line-short      so 21 bytes for each number of a line
---   refused-short, refused-most   29 for a refusal with any number, 12 where it is a byte
+--   byte_most, half_most   3 digits for a byte, 5 for a number of 16 bits
+--   decimal_short   20 for any number, since no more are written
+--   line_short      so 21 bytes for each number of a line
+--   refused_short, refused_most   29 for a refusal with any number, 12 where it is a byte
 use mathlib.Core.List.{List, [], ◌∷◌}
 use Prim.Native.Nat.{ℕ, zero, suc, ◌+◌, ◌*◌, ◌/◌, ◌≤◌, ◌<◌}
 use native.Mathlib.Omega.{arith}

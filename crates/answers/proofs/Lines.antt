@@ -2,7 +2,7 @@
 --
 --   SoFar              behind the word the first i numbers are written; the rest fits
 --   begun, one_more    none; a space and a number
---   word_room, byte-room, room_for   there is room for the word, for a byte more, and for the number
+--   word_room, byte_room, room_for   there is room for the word, for a byte more, and for the number
 --                      behind a space
 --   ended              the line feed, and so the line
 use mathlib.Core.Path.{◌≡◌, refl, sym, ap, ◌∙◌, subst}

@@ -1,10 +1,10 @@
 -- The lines that every program answers with, in ASCII: lists of byte values.
 --
 --   line_of word ns   the word, the numbers, each behind a space, and a line feed
---   acceptedWord, waitingWord   `accepted`, `waiting`
---   refusedText x    `refused` and the number
---   malformedText    `malformed`
---   skippedText      `skipped`: the line stands behind a malformed one of its list
+--   accepted_word, waiting_word  `accepted`, `waiting`
+--   refused_text x   `refused` and the number
+--   malformed_text   `malformed`
+--   skipped_text     `skipped`: the line stands behind a malformed one of its list
 use Rattle.std.specs.Prelude.{List, [], ◌∷◌, ◌++◌, ℕ}
 use Rattle.text.specs.Numerals.{decimal}
 

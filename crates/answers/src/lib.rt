@@ -1,5 +1,7 @@
 // The lines that every program answers with: a word and numbers, a refusal, that a line is
 // malformed, and that it is skipped.
+#![tactic(auto)]
+
 ghost use Rattle.std.specs.Prelude.{◌+◌, ◌≤◌, length};
 ghost use Rattle.text.specs.Writing.{Wrote};
 ghost use Rattle.answers.specs.Answers.{line_of, refused_text, malformed_text, skipped_text};

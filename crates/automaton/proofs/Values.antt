@@ -1,10 +1,10 @@
 -- Rules as values: the cells of a table that is made of a mask for each state and symbol, and two
 -- rules with the same arcs and marks. Assumes nothing of a table, and well-formed rules.
 --
---   table-law      a cell of such a table
+--   table_law      a cell of such a table
 --   Within c d     each arc, initial and final state of the automaton c is one of d
---   all-fields     rules with the same fields are equal
---   same-value     two well-formed rules with the same states, symbols, arcs and marks are equal
+--   all_fields     rules with the same fields are equal
+--   same_value     two well-formed rules with the same states, symbols, arcs and marks are equal
 use mathlib.Core.Path.{◌≡◌, refl, sym, ap, ◌∙◌}
 use mathlib.Core.Bool.{cond}
 use mathlib.Core.List.{List}

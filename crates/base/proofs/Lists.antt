@@ -1,19 +1,19 @@
 -- The laws of lists that are made cell by cell (`list_from`) or part by part (`joined`). Assumes
 -- nothing.
 --
---   length-listFrom, cell-of  the length of `list_from` and its cells
---   is-listFrom, same-list    an array with those cells is that list; the same cells, the same list
---   zero-cells                every cell of a list of zeros
---   stored, cell-stored       one cell more: what holds of each cell passed, and what each has
---   each-stored               one cell changed: what holds of every cell
---   joined-none, joined-suc, joined-more      no part, and one part more
---   joined-first              one part more before the others
+--   length_list_from, cell_of_lem  the length of `list_from` and its cells
+--   is_list_from, same_list   an array with those cells is that list; the same cells, the same list
+--   zero_cells                every cell of a list of zeros
+--   stored, cell_stored       one cell more: what holds of each cell passed, and what each has
+--   each_stored               one cell changed: what holds of every cell
+--   joined-none, joined_suc, joined-more      no part, and one part more
+--   joined_first              one part more before the others
 --   joined_same               equal parts make equal lists
---   joined_length, length-exact, length-joined   the length, by that of each part
---   joined-split              part i stands after those before it
+--   joined_length, length_exact, length_joined   the length, by that of each part
+--   joined_split              part i stands after those before it
 --   cut                       a list that is cut at some places is its parts, joined, and the rest
 --   part_at, part-byte        the part that stands after another, and its members
---   before-part, in-part, after-part, length-replaced   a list of which a part is replaced
+--   before_part, in_part, after_part, length_replaced   a list of which a part is replaced
 use mathlib.Core.Path.{◌≡◌, refl, sym, ap, ap₂, ◌∙◌}
 use mathlib.Core.Logic.{⊎_elim}
 use mathlib.Core.List.{List, [], ◌++◌, append_assoc, append-nil}

@@ -1,7 +1,7 @@
 -- The laws of what may be missing. Assumes nothing.
 --
 --   none-some            there is no value or there is one, not both
---   is-none, is-some     what `is_none` decides
+--   is-none, is_some_lem  what `is_none` decides
 --   not_some, not_none   what `is_some` decides, and that it is the other test
 use mathlib.Core.Path.{◌≡◌, refl}
 use mathlib.Core.Logic.{◌↔◌}

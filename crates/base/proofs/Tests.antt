@@ -2,13 +2,13 @@
 -- nothing.
 --
 --   zero_one                       what `cc` finds contradictory: `zero_one cc` proves anything
---   by-test                        the two cases of a test, each with its equation
+--   by_test                        the two cases of a test, each with its equation
 --   either                         what holds in both cases holds of the test
---   not-both                       a test is not both true and false
---   or-either, or-neither          one of two tests holds; neither does
+--   not_both                       a test is not both true and false
+--   or_either, or_neither          one of two tests holds; neither does
 --   or_left, or_right              where not one of them holds, the first and the second fail
 --   same_truth                     two tests that hold in the same cases are equal
---   either-most, one-most          bounds of a number that a test picks
+--   either_most, one_most          bounds of a number that a test picks
 use mathlib.Core.Path.{◌≡◌, refl, sym}
 use mathlib.Core.Logic.{◌↔◌, ◌⊎◌, ⊎_elim}
 use mathlib.Core.Bool.{Bool, true, false, cond, ◌||◌}

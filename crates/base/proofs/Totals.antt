@@ -1,14 +1,14 @@
 -- The laws of `total`, the sum over the numbers below a bound, and of `greatest`. Assumes nothing.
 --
---   total-more, total_first   one number more, and the first apart
---   total-same                the same sum of the same numbers
---   total-most, term-most     a bound of the sum; a term is at most the sum
---   total-but-one             a bound where one term is 0: room for one more is left
+--   total_more, total_first   one number more, and the first apart
+--   total_same                the same sum of the same numbers
+--   total_most, term_most     a bound of the sum; a term is at most the sum
+--   total_but_one             a bound where one term is 0: room for one more is left
 --   squeeze                   numbers one by one no greater, whose sums are equal, are equal
---   total-rest                numbers that add nothing
---   greatest-more, greatest-same, greatest-most, term-greatest, greatest-split, greatest-rest   the
+--   total_rest                numbers that add nothing
+--   greatest_more, greatest_same, greatest_most, term_greatest, greatest_split, greatest_rest   the
 --                             same of the greatest; the numbers from n on apart
---   greatest-sum              the greatest of sums, where a number is added only to a full one
+--   greatest_sum              the greatest of sums, where a number is added only to a full one
 use mathlib.Core.Path.{◌≡◌, refl, sym, ap, ap₂, ◌∙◌}
 use mathlib.Core.Logic.{⊎_elim}
 use Prim.Native.Nat.{ℕ, zero, suc, ◌+◌, ◌*◌, ◌≤◌, ◌<◌, max}

@@ -1,6 +1,6 @@
 -- An answer that says accepted, or refused with a number.
 --
---   answerNumber a   the number of the refusal, or none where the answer says accepted
+--   answer_number a  the number of the refusal, or none where the answer says accepted
 use Rattle.std.proofs.Math.Option.{Option, none, some}
 use Rattle.std.specs.Prelude.{ℕ}
 use Rattle.base.specs.declared.Answer.{Answer}

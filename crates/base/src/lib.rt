@@ -1,5 +1,7 @@
 // What belongs to no subject: an answer that says accepted or refused, a number with a bound. The rest
 // is definitions, in specs/, and their laws, in proofs/.
+#![tactic(auto)]
+
 ghost use Rattle.std.specs.Prelude.{◌≡◌, min};
 
 // What a call answers that says no more than whether it was accepted. A refusal has its number.

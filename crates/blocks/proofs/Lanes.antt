@@ -1,10 +1,10 @@
 -- Runs that share lanes. Assumes nothing.
 --
 --   Held                      the first j runs have their lanes
---   held_none, held-old, held_new   none has; the next takes a lane in use, or a new one
+--   held_none, held_old, held_new   none has; the next takes a lane in use, or a new one
 --   shared                    all have
---   ends-picked, counts-picked      what the runs take from their lanes is theirs
---   looked-shared             what is looked up for the lanes is what is looked up for the runs
+--   ends_picked, counts_picked      what the runs take from their lanes is theirs
+--   looked_shared             what is looked up for the lanes is what is looked up for the runs
 use mathlib.Core.Path.{◌≡◌, refl, ap, ◌∙◌}
 use mathlib.Core.Logic.{◌⊎◌, inl, inr, ⊎_elim}
 use mathlib.Core.List.{List}

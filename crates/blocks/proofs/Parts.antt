@@ -1,11 +1,11 @@
 -- Runs over a text, part by part. Assumes a table of row offsets.
 --
---   walked-is              a value with these three fields is `walked_of`
---   then-walked            one part and then another is both, joined
+--   walked_is              a value with these three fields is `walked_of`
+--   then_walked            one part and then another is both, joined
 --   walked_none, walked_empty   over no bytes the runs stand where they stood, and count nothing
 --   all-empty              where a part looks nothing up every run has died
---   walked-idle            from there on nothing changes
---   counts-small, looked-small   no count, and no number of bytes looked up, is above the text's
+--   walked_idle            from there on nothing changes
+--   counts_small, looked_small   no count, and no number of bytes looked up, is above the text's
 --                          length
 --   block_on, block_last   one block more, and one that looked nothing up
 use mathlib.Core.Path.{◌≡◌, refl, sym, ap, ◌∙◌}

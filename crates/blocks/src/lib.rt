@@ -1,4 +1,6 @@
 // Up to 32 runs over a text: block by block, in lanes, so that runs which meet are walked once.
+#![tactic(auto)]
+
 ghost use Rattle.std.specs.Prelude.{◌≡◌, ℕ, ◌<◌, ◌≤◌, max, length, get_or, replicate};
 ghost use Rattle.limits.specs.Limits.{most_states, longest_chunk};
 ghost use Rattle.lanes.specs.mirror.Offsets.{empty_row, offsets_of, row_end, row_count, rows_end, rows_count, rows_looked, RowTable, Rows};

@@ -2,13 +2,13 @@
 -- and clearing are, and what the empty places and the summed count come to. Assumes the lengths of
 -- the arrays (`Sized`), which a new board has and every change keeps.
 --
---   sized-empty, empty-all, empty-held, empty-count,  a new board: all places empty, no end sets,
---   empty-length, empty-last                          counts and lengths 0, no revision
+--   sized_empty, empty_all, empty_held, empty_count,  a new board: all places empty, no end sets,
+--   empty_length, empty_last                          counts and lengths 0, no revision
 --   Changed                                           one place has been changed, and the others
 --                                                     are as before
 --   filled_at_lem, cleared_at                             filling and clearing change their place
 --                                                     alone, and to what
---   empty-law, summed-law, bytes-law                  the empty places, the summed count and the
+--   empty_law, summed_law, bytes_law                  the empty places, the summed count and the
 --                                                     summed bytes, from what is known of each
 --                                                     place
 use mathlib.Core.Path.{◌≡◌, refl, ap, ◌∙◌, subst}

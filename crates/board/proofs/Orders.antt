@@ -3,7 +3,7 @@
 --
 --   offered fits b p v s   the board after a chunk with the runs s and the revision v was offered to
 --                          place p: it is kept where it fits and does not come late
---   filled-again           of what a place held before nothing is left
+--   filled_again           of what a place held before nothing is left
 --   filled_apart           two places are filled in either order
 --   commutes               the claim
 use mathlib.Core.Path.{◌≡◌, refl, sym, ap, ◌∙◌, subst}

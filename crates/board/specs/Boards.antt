@@ -5,20 +5,20 @@
 -- is, so that 0 is none.
 --
 --   places_of b         the number of places
---   heldIn ends p q    the end set of state q at place p, in an array with 32 cells a place
+--   held_in ends p q   the end set of state q at place p, in an array with 32 cells a place
 --   held b p q         the same on the board b
 --   is_empty b p        place p has no chunk
 --   last_at b p         one more than the last revision accepted at place p, 0 where there was none
---   comesLate b p v    the revision v is not greater than the last one accepted at place p
---   emptyBoard n       n places, all empty, no revision accepted anywhere
+--   comes_late b p v   the revision v is not greater than the last one accepted at place p
+--   empty_board n      n places, all empty, no revision accepted anywhere
 --   row_set ends p g    the end sets with those of place p as g has them
---   filledAt b p v s   place p holds the end sets, the count and the length that the runs s have,
+--   filled_at b p v s  place p holds the end sets, the count and the length that the runs s have,
 --                      which may be those of an empty chunk, and the revision v
---   clearedAt b p      place p is empty, its end sets empty, its count and its length 0; its
+--   cleared_at b p     place p is empty, its end sets empty, its count and its length 0; its
 --                      revision stays
---   emptyPlaces b      how many places are empty
---   summedCount b      the sum of the counts over all places
---   summedBytes b      the sum of the lengths over all places
+--   empty_places b     how many places are empty
+--   summed_count b     the sum of the counts over all places
+--   summed_bytes b     the sum of the lengths over all places
 use Rattle.std.specs.Prelude.{Bool, cond, List, ℕ, ◌+◌, ◌*◌, ◌/◌, ◌%◌, min, eqb, ltb, get_or, set, replicate}
 use Rattle.limits.specs.Limits.{most_states, most_places, end_cells}
 use Rattle.base.specs.Lists.{list_from}

@@ -1,5 +1,7 @@
 // The board: what stands at each place. Any value of any field is taken: a number of places above
 // 64 counts as 64.
+#![tactic(auto)]
+
 ghost use Rattle.std.specs.Prelude.{◌≡◌, ◌+◌, ◌≤◌, ◌<◌, min, cond, eqb, ltb, length, get_or, set};
 ghost use Rattle.limits.specs.Limits.{most_places, end_cells};
 ghost use Rattle.base.specs.Totals.{total};

@@ -1,4 +1,6 @@
 // Builds a rule: its numbered sets, its next-set table, its delegates and the number of its starts.
+#![tactic(auto)]
+
 ghost use Rattle.std.specs.Prelude.{◌≡◌};
 ghost use Rattle.build.specs.mirror.Building.{no_built, build_outcome, build_of};
 

@@ -1,10 +1,10 @@
 -- The numbers that C is given for two rules compared. Every field is fixed.
 --
---   kind_of, refusedOf      the kind of an answer: 0 refused, 10 a text that the first rule alone
+--   kind_of, refused_of     the kind of an answer: 0 refused, 10 a text that the first rule alone
 --                          accepts, 11 one that the second alone accepts, 12 the same texts; and the
 --                          number of a refusal, else 0
---   comparisonShown o      the answer o, with the length and the text as they are
---   comparisonReadBack r   what such a result says, read back from its numbers
+--   comparison_shown o     the answer o, with the length and the text as they are
+--   comparison_read_back r  what such a result says, read back from its numbers
 use Rattle.std.specs.Prelude.{cond, ℕ, eqb}
 use Rattle.compare.specs.declared.Which.TheVariants.{First, Second}
 use Rattle.compare.specs.Values.{Reply, apart, same, refused, Outcome}

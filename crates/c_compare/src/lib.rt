@@ -1,4 +1,6 @@
 // Two rules compared, for C, Rust and Python. The answer is numbers.
+#![tactic(auto)]
+
 ghost use Rattle.std.specs.Prelude.{◌≡◌};
 ghost use Rattle.compare.specs.Values.{outcome_of};
 ghost use Rattle.compare.specs.Search.{compare_of};

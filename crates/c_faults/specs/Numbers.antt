@@ -2,9 +2,9 @@
 -- has no use for is 0. A kind is none of a verdict's, 1 to 4, so that none passes for a yes; refused
 -- and open are those of a diagnosis.
 --
---   faultShown f      kind 0 refused, 6 open, each with its number; 7 a row, 8 a column that is
+--   fault_shown f     kind 0 refused, 6 open, each with its number; 7 a row, 8 a column that is
 --                     lost, 9 a short one
---   faultReadBack r   what such a result says, read back from its numbers
+--   fault_read_back r  what such a result says, read back from its numbers
 --   Claims            the kinds, and that nothing is lost by it; proofs/Numbers.antt proves it
 use Rattle.std.specs.Prelude.{◌≡◌, cond, ℕ, eqb}
 use Rattle.faults.specs.Faulting.{Finding, refused_as, row_at, column_at, short_at, open_with}

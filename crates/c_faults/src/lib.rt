@@ -1,5 +1,7 @@
 // Where a tray goes wrong, for C, Rust and Python. The answer is numbers, and the tray stays as it
 // is.
+#![tactic(auto)]
+
 ghost use Rattle.std.specs.Prelude.{◌≡◌};
 ghost use Rattle.faults.specs.Faulting.{fault_of};
 ghost use Rattle.c_faults.specs.Numbers.{fault_shown};

@@ -1,10 +1,10 @@
 -- The numbers that C is given by following. Every field is fixed.
 --
---   lostFlag x, atBy x   the fields `lost` and `at` for the place x where it is lost, or none: 1 and the
+--   lost_flag x, at_by x  the fields `lost` and `at` for the place x where it is lost, or none: 1 and the
 --                    place, or 0 and 0
---   followShown o    the answer o
---   prepareShown p   what preparing answers: the follower is all zeros where it is refused
---   followReadBack, prepareReadBack   what such numbers say, read back
+--   follow_shown o   the answer o
+--   prepare_shown p  what preparing answers: the follower is all zeros where it is refused
+--   follow_read_back, prepare_read_back  what such numbers say, read back
 use Rattle.std.specs.Prelude.{cond, ℕ, eqb}
 use Rattle.std.proofs.Math.Option.{Option, none, some, get_or}
 use Rattle.base.specs.Options.{is_none}

@@ -1,5 +1,7 @@
 // Following a trace that comes in order, for C, Rust and Python. Answers are numbers; a follower is a
 // value that the caller keeps and hands in.
+#![tactic(auto)]
+
 ghost use Rattle.std.specs.Prelude.{◌≡◌};
 ghost use Rattle.follow.specs.Following.{lost_means, follow_outcome, follow_of, follow_by_of, prepare_of};
 ghost use Rattle.c_follow.specs.Numbers.{lost_flag, at_by, follow_shown, prepare_shown};

@@ -1,8 +1,8 @@
 -- The numbers that C is given for a failure form and for a table. Every field is fixed.
 --
---   formShown m, tableShown b   accepted 1 and refused 0, or accepted 0 and the number of the
+--   form_shown m, table_shown b  accepted 1 and refused 0, or accepted 0 and the number of the
 --                               refusal; the form or table is all zeros where it is refused
---   formReadBack r, tableReadBack r   what such a result says, read back from its numbers
+--   form_read_back r, table_read_back r  what such a result says, read back from its numbers
 use Rattle.flags.specs.Flags.{flag_by, refused_by, refusal_by}
 use Rattle.forms.specs.Back.{Back}
 use Rattle.formmaker.specs.Making.{Made}

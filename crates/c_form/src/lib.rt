@@ -1,4 +1,6 @@
 // The failure form of a judge's table, and the way back, for C and Rust. The answers are numbers.
+#![tactic(auto)]
+
 ghost use Rattle.std.specs.Prelude.{◌≡◌};
 ghost use Rattle.forms.specs.Back.{back_of};
 ghost use Rattle.formmaker.specs.Making.{made_of};

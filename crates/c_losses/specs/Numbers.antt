@@ -1,9 +1,9 @@
 -- The numbers that C is given for a loss. Every field is fixed: what an answer has no use for is 0.
 -- A kind is none of a verdict's, 1 to 4, so that none passes for a yes.
 --
---   diagnosisShown f      kind 0 refused, 5 lost, 6 open, each with its number
---   spotShown s           kind 0 refused, 5 lost after so many bytes, 6 nowhere
---   diagnosisReadBack, spotReadBack   what such a result says, read back from its numbers
+--   diagnosis_shown f     kind 0 refused, 5 lost, 6 open, each with its number
+--   spot_shown s          kind 0 refused, 5 lost after so many bytes, 6 nowhere
+--   diagnosis_read_back, spot_read_back  what such a result says, read back from its numbers
 --   Claims                the kinds, and that nothing is lost by it; proofs/Numbers.antt proves it
 use Rattle.std.specs.Prelude.{◌≡◌, cond, ℕ, eqb}
 use Rattle.diagnoses.specs.Diagnosing.{Finding, refused_as, lost_at, open_with}

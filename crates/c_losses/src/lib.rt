@@ -1,4 +1,6 @@
 // Where a trace is lost, for C, Rust and Python. The answers are numbers, and the judge stays as it is.
+#![tactic(auto)]
+
 ghost use Rattle.std.specs.Prelude.{◌≡◌};
 ghost use Rattle.diagnoses.specs.Diagnosing.{diagnosis_of};
 ghost use Rattle.locating.specs.Locating.{spot_of};

@@ -1,12 +1,12 @@
 -- The numbers that C is given by the mapping machine. Every field is fixed.
 --
 --   number_in a       the number of a refusal in what building answers, or none
---   buildShown b     what building answers: the profile is all zeros where it is refused; how many
+--   build_shown b    what building answers: the profile is all zeros where it is refused; how many
 --                    mappings there are is a field of it
---   runShown r       what a run answers: the mapping is all zeros where it is refused
---   mappingShown f   a mapping
---   verdictShown y   1 for yes, 0 for no
---   buildReadBack .. verdictReadBack   what such numbers say, read back
+--   run_shown r      what a run answers: the mapping is all zeros where it is refused
+--   mapping_shown f  a mapping
+--   verdict_shown y  1 for yes, 0 for no
+--   build_read_back .. verdict_read_back  what such numbers say, read back
 use Rattle.std.specs.Prelude.{Bool, cond, List, ℕ, eqb}
 use Rattle.std.proofs.Math.Option.{Option, none, some}
 use Rattle.flags.specs.Flags.{flag_by, refused_by, bit_by, refusal_by}

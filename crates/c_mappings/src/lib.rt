@@ -1,5 +1,7 @@
 // The mapping machine for C and Rust. Answers are numbers; a profile and a mapping are values that
 // the caller keeps and hands in.
+#![tactic(auto)]
+
 ghost use Rattle.std.specs.Prelude.{◌≡◌};
 ghost use Rattle.profile.specs.Profiles.{build_of};
 ghost use Rattle.profile.specs.Runs.{run_of, verdict_of};

@@ -1,8 +1,8 @@
 -- The numbers that C is given for two rules made one. Every field is fixed.
 --
---   mergeShown m      what merging answers: accepted 1 and refused 0, or accepted 0 and the number
+--   merge_shown m     what merging answers: accepted 1 and refused 0, or accepted 0 and the number
 --                     of the refusal; the rule is all zeros where it is refused
---   mergeReadBack r   what such a result says, read back from its numbers
+--   merge_read_back r  what such a result says, read back from its numbers
 use Rattle.flags.specs.Flags.{flag_by, refused_by, refusal_by}
 use Rattle.merging.specs.Merging.{Merging}
 use Rattle.c_merge.specs.declared.MergeNumbers.{MergeNumbers}

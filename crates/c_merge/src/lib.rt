@@ -1,4 +1,6 @@
 // Merging two rules for C, Rust and Python. The answer is numbers.
+#![tactic(auto)]
+
 ghost use Rattle.std.specs.Prelude.{◌≡◌};
 ghost use Rattle.merging.specs.Merging.{way_of, merge_outcome, merge_of};
 ghost use Rattle.c_merge.specs.Numbers.{merge_shown};

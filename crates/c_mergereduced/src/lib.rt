@@ -1,4 +1,6 @@
 // Merging two rules, reduced, for C, Rust and Python. The answer is the numbers of merging.
+#![tactic(auto)]
+
 ghost use Rattle.std.specs.Prelude.{◌≡◌};
 ghost use Rattle.merging.specs.Merging.{way_of};
 ghost use Rattle.mergereduce.specs.MergeReduced.{merge_reduced_of};

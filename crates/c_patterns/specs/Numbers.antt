@@ -1,9 +1,9 @@
 -- The numbers that C is given for what reading a pattern answers. Every field is fixed: what a
 -- refusal has no use for is 0.
 --
---   patternShown o      the outcome o as a result: `accepted` 1 and `refused` 0, or 0 and the number;
+--   pattern_shown o     the outcome o as a result: `accepted` 1 and `refused` 0, or 0 and the number;
 --                       the length of the file, and its bytes
---   patternReadBack r   what such a result says, read back from its numbers
+--   pattern_read_back r  what such a result says, read back from its numbers
 use Rattle.flags.specs.Flags.{flag_by, refused_by, refusal_by}
 use Rattle.rulewriter.specs.Written.{Writing}
 use Rattle.c_patterns.specs.declared.PatternNumbers.{PatternNumbers}

@@ -1,4 +1,6 @@
 // Reading a pattern, for C and Rust: the answer in numbers.
+#![tactic(auto)]
+
 ghost use Rattle.std.specs.Prelude.{◌≡◌};
 ghost use Rattle.patternfile.specs.Answers.{pattern_of};
 ghost use Rattle.c_patterns.specs.Numbers.{pattern_shown};

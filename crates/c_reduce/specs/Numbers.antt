@@ -1,9 +1,9 @@
 -- The numbers that C is given for a rule reduced. Every field is fixed.
 --
---   reduceShown m      what reducing answers: accepted 1 and refused 0, or accepted 0 and the
+--   reduce_shown m     what reducing answers: accepted 1 and refused 0, or accepted 0 and the
 --                      number of the refusal; whether the result installs; the rule is all zeros
 --                      where it is refused
---   reduceReadBack r   what such a result says, read back from its numbers
+--   reduce_read_back r  what such a result says, read back from its numbers
 use Rattle.std.specs.Prelude.{eqb}
 use Rattle.flags.specs.Flags.{flag_by, refused_by, bit_by, refusal_by}
 use Rattle.reducing.specs.Reducing.{Reducing}

@@ -1,4 +1,6 @@
 // Reducing a rule for C, Rust and Python. The answer is numbers.
+#![tactic(auto)]
+
 ghost use Rattle.std.specs.Prelude.{◌≡◌};
 ghost use Rattle.reducing.specs.Reducing.{reduce_of};
 ghost use Rattle.c_reduce.specs.Numbers.{reduce_shown};

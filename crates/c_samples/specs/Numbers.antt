@@ -1,10 +1,10 @@
 -- The numbers that C gives and is given for a sample. Every field is fixed.
 --
---   wishOf number        the wish that C names by the number: 0 accepted, any other rejected
---   kind_of, refusedOf    the kind of an answer: 0 refused, 1 a text, 2 none; and the number of a
+--   wish_of number       the wish that C names by the number: 0 accepted, any other rejected
+--   kind_of, refused_of   the kind of an answer: 0 refused, 1 a text, 2 none; and the number of a
 --                        refusal, else 0
---   sampleShown o        the answer o, with the length and the text as they are
---   sampleReadBack r     what such a result says, read back from its numbers
+--   sample_shown o       the answer o, with the length and the text as they are
+--   sample_read_back r   what such a result says, read back from its numbers
 use Rattle.std.specs.Prelude.{cond, ℕ, eqb}
 use Rattle.samples.specs.declared.Wish.{Wish}
 use Rattle.samples.specs.declared.Wish.TheVariants.{Accepted, Rejected}

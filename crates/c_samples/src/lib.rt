@@ -1,4 +1,6 @@
 // A sample trace of a rule, for C, Rust and Python. The answer is numbers.
+#![tactic(auto)]
+
 ghost use Rattle.std.specs.Prelude.{◌≡◌};
 ghost use Rattle.samples.specs.Values.{outcome_of};
 ghost use Rattle.samples.specs.Search.{sample_of};

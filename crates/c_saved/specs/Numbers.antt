@@ -1,8 +1,8 @@
 -- The numbers that C is given for bytes that were restored. Every field is fixed.
 --
---   restoreShown r      what restoring answers: accepted 1 and refused 0, or accepted 0 and the number
+--   restore_shown r     what restoring answers: accepted 1 and refused 0, or accepted 0 and the number
 --                       of the refusal; the judge is the fresh one, all zeros, where it is refused
---   restoreReadBack n   what such a result says, read back from its numbers
+--   restore_read_back n  what such a result says, read back from its numbers
 use Rattle.flags.specs.Flags.{flag_by, refused_by, refusal_by}
 use Rattle.saved_judge.specs.Saved.{Restored}
 use Rattle.c_saved.specs.declared.RestoreNumbers.{RestoreNumbers}

@@ -1,4 +1,6 @@
 // A judge as bytes, and back, for C, Rust and Python. The answer to restoring is numbers.
+#![tactic(auto)]
+
 ghost use Rattle.std.specs.Prelude.{◌≡◌};
 ghost use Rattle.saved_judge.specs.Saved.{saved_of, restore_of};
 ghost use Rattle.saved_judge.specs.Claims.{Fits};

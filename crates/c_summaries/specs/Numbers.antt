@@ -1,12 +1,12 @@
 -- The numbers that C is given by summaries. Every field is fixed: what an answer has no use for is
 -- 0. A summary stands as it is.
 --
---   summaryShown s     the summary, or the number of the refusal
+--   summary_shown s    the summary, or the number of the refusal
 --   kind_of v, number_of v   a verdict: kind 0 refused, 1 waiting, 2 yes, 3 no, each with its number,
 --                      as the judge shows it; none other than 0, 2 and 3 is concluded
---   concludeShown r    what is concluded: the kind and the number, and the bytes, the quotient and
+--   conclude_shown r   what is concluded: the kind and the number, and the bytes, the quotient and
 --                      the remainder beside them
---   summaryReadBack, concludeReadBack   what such a result says, read back from its numbers
+--   summary_read_back, conclude_read_back  what such a result says, read back from its numbers
 --   Concluded v k x    a report with the verdict v is shown as kind k with the number x, and its
 --                      other numbers as they are
 --   Claims             every field, case by case, and that nothing is lost by it;

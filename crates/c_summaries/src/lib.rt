@@ -1,6 +1,8 @@
 // Summaries for C, Rust and Python. Answers are numbers; a summary is a value that the caller
 // keeps, sends and hands in. Of the judge only its rule is looked at, which every machine loads for
 // itself.
+#![tactic(auto)]
+
 ghost use Rattle.std.specs.Prelude.{◌≡◌};
 ghost use Rattle.calls.specs.Replies.{verdict_means, report_means};
 ghost use Rattle.summaries.specs.Summaries.{combine as combineOf, summarize_of, conclude_of};

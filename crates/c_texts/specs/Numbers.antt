@@ -1,8 +1,8 @@
 -- The numbers that C is given for a text to make. Every field is fixed, and so is the buffer.
 --
---   madeShown o       what making a text answers: accepted 1 and refused 0, or accepted 0 and the
+--   made_shown o      what making a text answers: accepted 1 and refused 0, or accepted 0 and the
 --                     number of the refusal
---   madeReadBack r    what such a result says, read back from its numbers
+--   made_read_back r  what such a result says, read back from its numbers
 --   MakesShown        what `bellbadger_make_text` promises
 use Rattle.std.specs.Prelude.{◌≡◌, List, ℕ}
 use Rattle.std.proofs.Math.Option.{Option}

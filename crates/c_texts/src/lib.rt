@@ -1,4 +1,6 @@
 // Making test texts for C, Rust and Python. The answer is numbers.
+#![tactic(auto)]
+
 ghost use Rattle.c_texts.specs.Numbers.{MakesShown};
 
 // Accepted is 1 or 0; where it is 0, refused has the number.

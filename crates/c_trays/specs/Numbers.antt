@@ -1,15 +1,15 @@
 -- The numbers that C is given for the outcome of a tray's call. Every field is fixed: what a result
 -- has no use for is 0.
 --
---   flagOf a, refusedOf a        the fields `accepted` and `refused` for the reply a: 1 and 0, or 0
+--   flag_of a, refused_of a      the fields `accepted` and `refused` for the reply a: 1 and 0, or 0
 --                                and the number of the refusal
---   setsField a, startsField a   the fields `sets` and `starts`
---   installShown o               the outcome of either installation as a result
---   callShown o                  that of an opening, a delivery or a withdrawal
+--   sets_field a, starts_field a  the fields `sets` and `starts`
+--   install_shown o              the outcome of either installation as a result
+--   call_shown o                 that of an opening, a delivery or a withdrawal
 --   kind_of v, number_of v         a verdict: kind 0 refused with its number, 1 waiting with so many
 --                                empty bands, 2 yes and 3 no with 0
---   verdictShown v               what the verdict says as a result
---   installReadBack .. verdictReadBack   what such a result says, read back from its numbers
+--   verdict_shown v              what the verdict says as a result
+--   install_read_back .. verdict_read_back  what such a result says, read back from its numbers
 -- No other reply is given to these calls; the lines for others are there so that every case has a
 -- value.
 use Rattle.std.specs.Prelude.{cond, ℕ, eqb}

@@ -1,5 +1,7 @@
 // Trays for C and Rust. Answers are numbers; a tray is a value that the caller keeps, hands in and
 // gets back.
+#![tactic(auto)]
+
 ghost use Rattle.std.specs.Prelude.{◌≡◌};
 ghost use Rattle.trays.specs.Replies.{verdict_means};
 ghost use Rattle.trays.specs.mirror.Steps.{fresh, install_outcome, call_outcome, install_row_of, install_column_of, open_of, deliver_of, withdraw_of, verdict_of};

@@ -1,9 +1,9 @@
 -- What reading the bytes of a line into the lent buffer leaves for the call. Assumes nothing.
 --
---   load-malformed, load-put        the ways through a load
---   install-malformed, install-put  the ways through an installation
---   other-bytes, rule-bytes         the bytes of one: too few or too many, or those of a rule
---   deliver-malformed, deliver-put  the ways through a delivery
+--   load_malformed, load_put        the ways through a load
+--   install_malformed, install_put  the ways through an installation
+--   other_bytes, rule_bytes         the bytes of one: too few or too many, or those of a rule
+--   deliver_malformed, deliver_put  the ways through a delivery
 use mathlib.Core.Path.{◌≡◌, ap, ◌∙◌}
 use mathlib.Core.List.{List}
 use mathlib.Core.Option.{some}

@@ -1,10 +1,10 @@
 -- A file or a chunk that is too long is refused by its length alone, and bytes that are too many
 -- for a rule are malformed, so the first of them stand for all. Assumes nothing.
 --
---   long-load                    the number is 2
---   loads-long, delivers-long    one that is too long has the outcome of any other
---   installs-long                one that is too long for a rule is malformed
---   loads-clip, delivers-clip, installs-clip   the first bytes, one more than the limit at least,
+--   long_load                    the number is 2
+--   loads_long, delivers_long    one that is too long has the outcome of any other
+--   installs_long                one that is too long for a rule is malformed
+--   loads_clip, delivers_clip, installs_clip   the first bytes, one more than the limit at least,
 --                                come to what all of them come to
 use mathlib.Core.Path.{◌≡◌, refl, sym, ap, ◌∙◌}
 use mathlib.Core.Bool.{Bool, true, false, cond}

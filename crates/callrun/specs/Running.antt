@@ -1,9 +1,9 @@
 -- The outcome of a line on a judge.
 --
 --   LineOutcome            the outcome of a line: what it is answered, and the judge that it leaves
---   replyOf o              the outcome of a line that records a call, from the call's
---   lineStep j m           the outcome of a line of the meaning m on the judge j
---   runOutcome r            the outcome that the code's result stands for
+--   reply_of o             the outcome of a line that records a call, from the call's
+--   line_step j m          the outcome of a line of the meaning m on the judge j
+--   run_outcome r           the outcome that the code's result stands for
 --   Scratch before after   all that holds of a buffer that is lent for the bytes of a line: its
 --                          length stays. What it has in it before is of no matter, and what is
 --                          left in it is free, also where the call is refused

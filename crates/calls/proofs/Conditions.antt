@@ -1,9 +1,9 @@
 -- The conditions of an installation and of a load: those of the rule or of the file, then 9.
 -- Assumes nothing.
 --
---   install-number, load-number   the number, by the conditions of the rule or file and then by 9
---   not-refused, load-accepted    what holds where there is none
---   load-installs                 a file that reading accepts has the number of its rule
+--   install_number_lem, load_number_lem  the number, by the conditions of the rule or file and then by 9
+--   not_refused, load_accepted    what holds where there is none
+--   load_installs                 a file that reading accepts has the number of its rule
 use mathlib.Core.Path.{◌≡◌, refl, sym, ◌∙◌}
 use mathlib.Core.Bool.{Bool, true, false, cond}
 use mathlib.Core.List.{List}

@@ -1,6 +1,6 @@
 -- A refusal leaves the state as it was, on any state whatever (demand 1). Assumes nothing.
 --
---   refusal-law                 a reply has the number of a refusal exactly where it is that
+--   refusal_law                 a reply has the number of a refusal exactly where it is that
 --                               refusal, of the verdict or of another call
 --   unchanged                   the claim
 use mathlib.Core.Path.{◌≡◌, refl, ap, ◌∙◌}

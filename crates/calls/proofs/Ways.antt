@@ -1,15 +1,15 @@
 -- Each way out of each call's definition: the facts that lead there, in the order in which the code
 -- finds them, and the answer. Assumes nothing.
 --
---   fresh-by                                                fresh
---   open-20, open-few, open-many, opened                    openOf
---   withdraw-21, withdraw-11, withdraw-23, withdrawn        withdrawOf
---   deliver-21, -11, -12, -13, -22, delivered               deliverOf
---   verdict-21, verdict-waiting, verdict-yes, verdict-no    verdictOf
---   bytes-none, bytes-some                                  perByte
---   report-waiting, report-yes, report-no, report-refused   reportBy
---   install-unchecked, install-unbuilt, installed           installOf
---   load-unread, load_read                                  load_of
+--   fresh_by                                                fresh
+--   open_20, open_few, open_many, opened                    open_of
+--   withdraw_21, withdraw_11, withdraw_23, withdrawn        withdraw_of
+--   deliver_21, -11, -12, -13, -22, delivered               deliver_of
+--   verdict_21, verdict_waiting, verdict_yes, verdict_no    verdict_of
+--   bytes_none, bytes_some                                  per_byte
+--   report_waiting, report_yes, report_no, report_refused   report_by
+--   install_unchecked, install_unbuilt, installed           install_of
+--   load_unread, load_read                                  load_of
 use mathlib.Core.Path.{◌≡◌, sym, ap, ◌∙◌}
 use mathlib.Core.Bool.{Bool, true, false, cond}
 use mathlib.Core.List.{List}

@@ -7,19 +7,19 @@
 --   Call               install, load, open, deliver, withdraw and verdict, with what they are
 --                      given. A load is reading its file, which stands outside, and installing the
 --                      rule where there is one (`LoadIs` of specs/Claims.antt)
---   manySets r         9: more than 512 sets are reached
---   installNumber r    the number with which the installation of the rule r is refused, 3, 4, 6, 8
+--   many_sets r        9: more than 512 sets are reached
+--   install_number r   the number with which the installation of the rule r is refused, 3, 4, 6, 8
 --                      or 9, or none where it is accepted
---   loadNumber f       the number with which a load of the file f is refused, document 01's 1 to 9
+--   load_number f      the number with which a load of the file f is refused, document 01's 1 to 9
 --                      in one order, or none where it is accepted
---   withSets r         what the installation of the rule r is answered where it is accepted
---   openConditions, deliverConditions, withdrawConditions   20, 10; 21, 11, 12, 13, 22; 21, 11, 23
---   verdictBy          what a verdict says: by whether no board is there, the number of empty
+--   with_sets r        what the installation of the rule r is answered where it is accepted
+--   open_conditions, deliver_conditions, withdraw_conditions  20, 10; 21, 11, 12, 13, 22; 21, 11, 23
+--   verdict_by         what a verdict says: by whether no board is there, the number of empty
 --                      places, whether the join says yes, and the sum of the counts
---   perByte v c b      v, with the b bytes of the text, the whole quotient of the count c by them,
+--   per_byte v c b     v, with the b bytes of the text, the whole quotient of the count c by them,
 --                      and the remainder; both are 0 for a text of 0 bytes
 --   alone v            v, with three zeros
---   reportBy v b       what the call verdict reports: yes or no with its count by the bytes of the
+--   report_by v b      what the call verdict reports: yes or no with its count by the bytes of the
 --                      text, of which there are b; waiting and a refusal alone
 use Rattle.std.specs.Prelude.{Bool, cond, List, [], ◌∷◌, ◌++◌, ℕ, ◌/◌, ◌%◌, ltb, leb, eqb, length}
 use Rattle.std.proofs.Math.Option.{Option}

@@ -1,7 +1,7 @@
 -- What holds of the calls on any state whatever.
 --
 --   Unchanged         demand 1: a refusal changes nothing. proofs/Refusing.antt proves it
---   As-installing     a call that takes a rule as a value first gives 3, 4, 6 or 8 as installing
+--   AsInstalling      a call that takes a rule as a value first gives 3, 4, 6 or 8 as installing
 --                     would: by `rule_number`. proofs/Loading.antt proves it
 --   LoadIs j f        a load of the file f on the state j is reading it and, where that accepts,
 --                     installing its rule (document 02, R-3). proofs/Loading.antt proves it
@@ -10,7 +10,7 @@
 --   ThreeZeros r      it has none of the three
 --   ReportLaw         what `report_by` gives. proofs/Reporting.antt proves it
 --   ForeignByte w k   some byte of the chunk w is neither an idle mark nor a symbol below k
---   Foreign-exactly   the condition of 13 holds exactly then. proofs/Foreign.antt proves it
+--   ForeignExactly    the condition of 13 holds exactly then. proofs/Foreign.antt proves it
 --   MarksSkipped      a delivery has the outcome of delivering its text, but for 12 (document 02,
 --                     R-5). proofs/MarksSkipped.antt proves it
 use Rattle.std.specs.Prelude.{◌≡◌, ◌↔◌, ◌⊎◌, true, List, ℕ, ◌+◌, ◌*◌, ◌<◌, ◌≤◌, length, get_or}

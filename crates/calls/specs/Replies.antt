@@ -2,8 +2,8 @@
 --
 --   Judgement            what a verdict says
 --     waiting e          e places are empty
---     yesWith c, noWith c   yes, no, with the count
---     refusedWith x      the call was refused with the number x
+--     yes_with c, no_with c  yes, no, with the count
+--     refused_with x     the call was refused with the number x
 --   Reported             what the call verdict reports: the verdict, the number of text bytes, the
 --                        whole quotient of the count by it, and the remainder
 --   Reply                what is answered to a call
@@ -13,10 +13,10 @@
 --                        looked up (document 02, R-2)
 --     judged r           a verdict was asked for: r is reported
 --     refused x          a call other than the verdict was refused with the number x
---   refusalIn v, refusalOf a   the number of the refusal, or none where v or a is none
---   installMeans .. verdictMeans, reportMeans   what each case of the code's answers says
+--   refusal_in v, refusal_of a  the number of the refusal, or none where v or a is none
+--   install_means .. verdict_means, report_means  what each case of the code's answers says
 --   Outcome              the outcome of a call: its reply, and the state that it leaves
---   installOutcome .. deliverOutcome   the outcome that the code's result stands for
+--   install_outcome .. deliver_outcome  the outcome that the code's result stands for
 use Rattle.std.proofs.Math.Option.{Option, none, some}
 use Rattle.std.specs.Prelude.{ℕ}
 use Rattle.build.specs.declared.BuildAnswer.{BuildAnswer}

@@ -1,5 +1,7 @@
 // The state of the judge and the answers of its calls. The outcome of each call is in specs/;
 // crates/judge has the calls.
+#![tactic(auto)]
+
 use base::Answer;
 use board::Board;
 use build::{BuildAnswer, Built};

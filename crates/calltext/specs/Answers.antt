@@ -2,12 +2,12 @@
 --
 --   Response          what a line is answered: a fresh judge began, a call was replied to, or the
 --                     line is malformed
---   judgementText v beside   the line of a verdict; `beside` follows the count of a yes or no
---   replyText a       the line of a reply: beside a verdict's yes or no the bytes, the quotient and
+--   judgement_text v beside  the line of a verdict; `beside` follows the count of a yes or no
+--   reply_text a      the line of a reply: beside a verdict's yes or no the bytes, the quotient and
 --                     the remainder
---   responseText s    the line of any answer
---   isMalformed s        the line is malformed
---   answerMeans r      what each case of the code's answer says
+--   response_text s   the line of any answer
+--   is_malformed s       the line is malformed
+--   answer_means r     what each case of the code's answer says
 use Rattle.std.specs.Prelude.{Bool, true, false, List, [], ◌∷◌, ℕ}
 use Rattle.answers.specs.Answers.{line_of, accepted_word, waiting_word, refused_text, malformed_text}
 use Rattle.calls.specs.Replies.{Judgement, waiting, yes_with, no_with, refused_with, Reply, accepted, installed, judged, refused, install_means, call_means, deliver_means, report_means, delivered}

@@ -7,13 +7,13 @@
 --     call c           the call c is made
 --     malformed        it means nothing
 --   …-word             the word with which a line begins
---   revisionBy         the revision that a field says (document 02, R-11), from the number that it
+--   revision_by        the revision that a field says (document 02, R-11), from the number that it
 --                      says: that number, where 32 bits hold it
---   …By, deliverFields, revisionFields   the meaning, from what the fields say
+--   …By, deliver_fields, revision_fields  the meaning, from what the fields say
 --   call_in w           what the line w means, where it is not empty
---   lineIn w           what the line w means
---   lineMeans w r      what each case of the code's answer says of the line w
---   bytesFrom r        the index from which on the bytes are still to be read
+--   line_in w          what the line w means
+--   line_means w r     what each case of the code's answer says of the line w
+--   bytes_from r       the index from which on the bytes are still to be read
 --   Parsed w r         r is the right answer for the line w
 use Rattle.std.specs.Prelude.{◌≡◌, cond, List, [], ◌∷◌, ℕ, ◌≤◌, eqb, leb, length, drop}
 use Rattle.std.proofs.Math.Option.{Option, none, some}

@@ -2,7 +2,7 @@
 -- words of the definitions. proofs/Examples.antt proves the claim.
 --
 --   case s text       the answer s and its line
---   verdictOf v       the answer where the verdict is v: 3 text bytes, quotient 2, remainder 1
+--   verdict_of v      the answer where the verdict is v: 3 text bytes, quotient 2, remainder 1
 --   answers           the list: each kind of answer once
 --   Written cases     each answer is written as the line beside it
 use Rattle.std.specs.Prelude.{◌≡◌, List, [], ◌∷◌, ℕ}

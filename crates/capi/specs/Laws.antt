@@ -4,7 +4,7 @@
 --   Flags         `accepted` is 1 or 0, 1 exactly where nothing is refused, and then `refused` is
 --                 0; where it is 0, `refused` has the number
 --   Values        the fields of each case of an outcome: what it has, and 0 where it is refused
---   Reported-as v k x   a report with the verdict v is shown as kind k with the number x, and its
+--   ReportedAs v k x    a report with the verdict v is shown as kind k with the number x, and its
 --                 other numbers as they are: of a verdict and of a recorded list
 --   Kinds         the kinds of a verdict and of a recorded list
 use Rattle.std.specs.Prelude.{◌≡◌, ℕ}

@@ -1,18 +1,18 @@
 -- The numbers that C is given for the outcome of a call. Every field is fixed: what a result has no
 -- use for is 0.
 --
---   flagOf a, refusedOf a        the fields `accepted` and `refused` for the reply a
---   setsField a, startsField a, lookedField a   the fields `sets`, `starts` and `looked`
---   readShown r                  what reading answers: the rule is all zeros where it is refused
---   installShown .. deliverShown   an outcome as a result: of an installation and of a load, of
+--   flag_of a, refused_of a      the fields `accepted` and `refused` for the reply a
+--   sets_field a, starts_field a, looked_field a  the fields `sets`, `starts` and `looked`
+--   read_shown r                 what reading answers: the rule is all zeros where it is refused
+--   install_shown .. deliver_shown  an outcome as a result: of an installation and of a load, of
 --                                opening and of withdrawing, of a delivery
 --   kind_of v, number_of v         a verdict: kind 0 refused, 1 waiting, 2 yes, 3 no, each with its
 --                                number
---   verdictShown r               what the call verdict reports: its kind and number, and the bytes,
+--   verdict_shown r              what the call verdict reports: its kind and number, and the bytes,
 --                                the quotient and the remainder beside them
---   replayShown t                the same for a recorded list; kind 4: the line of that number is
+--   replay_shown t               the same for a recorded list; kind 4: the line of that number is
 --                                malformed
---   readReadBack .. replayReadBack       what such a result says, read back from its numbers
+--   read_read_back .. replay_read_back   what such a result says, read back from its numbers
 -- No other reply is given to these calls; the lines for others are there so that every case has a
 -- value.
 use Rattle.std.specs.Prelude.{cond, ℕ, eqb}

@@ -1,5 +1,7 @@
 // The judge for C and Rust. Answers are numbers; the state is a value that the caller keeps, hands
 // in and gets back.
+#![tactic(auto)]
+
 ghost use Rattle.std.specs.Prelude.{◌≡◌, ◌+◌, ◌*◌};
 ghost use Rattle.ruleformat.specs.Reader.{read_of};
 ghost use Rattle.calls.specs.Replies.{verdict_means, report_means, install_outcome, call_outcome};

@@ -1,10 +1,10 @@
 -- What runs count is how many bytes there are over which a run goes. Assumes nothing.
 --
---   how-many-once         there is one such number
---   how-many-map          of two kinds with the same members
---   how-many-sum          numbers by rows: their sum, over all rows
---   counted-runs          what one run counts
---   chunk-counts          what a chunk counts
+--   how_many_once         there is one such number
+--   how_many_map          of two kinds with the same members
+--   how_many_sum          numbers by rows: their sum, over all rows
+--   counted_runs          what one run counts
+--   chunk_counts          what a chunk counts
 use mathlib.Core.Path.{◌≡◌, refl, sym, ap, subst}
 use mathlib.Core.Logic.{◌↔◌}
 use mathlib.Core.Bool.{cond}

@@ -1,9 +1,9 @@
 -- The bytes for which a successor is looked up. Assumes nothing.
 --
---   looked-or       the number for the union of two sets is the greater of their numbers
---   looked-runs     so it is the greatest over the runs
---   all-empty-law   every run's set is empty exactly when the successor of the set that is run is
---   looked-most, looked-all-empty, looked-least   R-2's words
+--   looked_or       the number for the union of two sets is the greater of their numbers
+--   looked_runs     so it is the greatest over the runs
+--   all_empty_law   every run's set is empty exactly when the successor of the set that is run is
+--   looked_most, looked_all_empty, looked_least   R-2's words
 --
 -- The route: a run that has died stays dead (`looked_none`), and the successor of a union is the
 -- union of the successors, so the union of the runs' sets is empty when the last of them is.

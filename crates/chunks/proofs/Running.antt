@@ -1,8 +1,8 @@
 -- The runs of a chunk over row offsets are those of `runs_of`. Assumes nothing.
 --
---   start-low             the rows from which a chunk is run are row offsets
+--   start_low             the rows from which a chunk is run are row offsets
 --   ends, counted, looks  the end set of each state, the sum of the counts and the bytes looked up
---   runs-are              a value with these fields is `runs_of`
+--   runs_are              a value with these fields is `runs_of`
 --   runs_none             where no state is run, zeros
 use mathlib.Core.Path.{◌≡◌, refl, ap, ◌∙◌}
 use mathlib.Core.Bool.{cond}

@@ -1,9 +1,9 @@
 -- The laws of a walk over any next-set table, and that the table of row offsets walks the same way.
 -- Assumes nothing.
 --
---   end_empty, count-empty, looked-empty   the empty set stays empty, and counts and reads nothing
+--   end_empty, count_empty, looked_empty   the empty set stays empty, and counts and reads nothing
 --   count_most                             at most one step is counted for a byte
---   row-end, row_count_lem, row-looked         a walk over row offsets is a walk over sets' numbers
+--   row_end_lem, row_count_lem, row_looked_lem  a walk over row offsets is a walk over sets' numbers
 use mathlib.Core.Path.{◌≡◌, sym, ◌∙◌}
 use mathlib.Core.List.{List}
 use Prim.Native.Nat.{ℕ, ◌%◌, ◌≤◌}

@@ -4,11 +4,11 @@
 --   foreign w k            some byte of w is no symbol below k (13)
 --   counted ts m w         what a run over w counts that begins with the set m: one transition for
 --                          each successor that is not empty
---   delegateSet d n m      the delegates of the members of m; a member without one is passed over
---   runSet d n m place     the states that a chunk is run from at a place, where m is the set of
+--   delegate_set d n m     the delegates of the members of m; a member without one is passed over
+--   run_set d n m place    the states that a chunk is run from at a place, where m is the set of
 --                          initial states
 --   end_set ts run w q      the end set of state q for the chunk w; empty where q is not run
---   chunkCount ts run w    the chunk's count: the sum of what its runs count
+--   chunk_count ts run w   the chunk's count: the sum of what its runs count
 --   looked ts run w        for how many bytes of w a successor is looked up (document 02, R-2):
 --                          until every run's set is empty, else for all. `run` is the set of the
 --                          states that are run, so its successor is the union of the runs' sets

@@ -1,10 +1,10 @@
 -- Which chunks are taken (document 01, "Numbers caused by the input", with document 02, R-5): wherever a
 -- chunk is judged by a rule of k symbols, it is refused by these conditions, in this order.
 --
---   chunkConditions k w   12, over 65,536 bytes, idle marks counted; 13, a byte of its text, which is
+--   chunk_conditions k w  12, over 65,536 bytes, idle marks counted; 13, a byte of its text, which is
 --                         the chunk without its idle marks, at or above k
---   chunkNumber k w       the number with which the chunk w is refused, none where it is taken
---   Taken-exactly k w     which it is, condition by condition
+--   chunk_number k w      the number with which the chunk w is refused, none where it is taken
+--   TakenExactly k w      which it is, condition by condition
 use Rattle.std.specs.Prelude.{◌≡◌, ◌↔◌, ◌⊎◌, true, false, List, [], ◌∷◌, ℕ, ◌≤◌, ◌<◌, ltb, length}
 use Rattle.std.proofs.Math.Option.{Option, none, some}
 use Rattle.limits.specs.Limits.{longest_chunk}

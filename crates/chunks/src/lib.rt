@@ -1,4 +1,6 @@
 // Runs a chunk over the next-set table of a built rule.
+#![tactic(auto)]
+
 ghost use Rattle.std.specs.Prelude.{◌≡◌, ℕ, ◌/◌, ◌≤◌, ◌<◌, min, length, get_or, replicate};
 ghost use Rattle.limits.specs.Limits.{most_states, most_symbols, longest_chunk};
 ghost use Rattle.base.specs.Totals.{total};

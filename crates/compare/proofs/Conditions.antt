@@ -1,9 +1,9 @@
 -- Which number two rules have before the search: the first rule's, else the second's, else 36.
 -- Assumes nothing.
 --
---   pair-law        that number
+--   pair_law        that number
 --   passed          none exactly where both rules are well formed and have the same k
---   from-where      where a number comes from
+--   from_where      where a number comes from
 use mathlib.Core.Path.{◌≡◌, sym, ap, ◌∙◌}
 use mathlib.Core.Logic.{◌↔◌, ◌⊎◌, inl, inr, ⊎_elim}
 use mathlib.Core.Bool.{not, cond}

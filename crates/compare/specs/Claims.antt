@@ -1,7 +1,7 @@
 -- What is claimed of the answer, for the rules compared by hand and for every two rules;
 -- proofs/Claims.antt proves it.
 --
---   Refused-exactly one two   which number the two are refused with, condition by condition
+--   RefusedExactly one two    which number the two are refused with, condition by condition
 use Rattle.std.specs.Prelude.{◌≡◌, ◌↔◌, ◌⊎◌, List, ℕ, ◌≤◌, length}
 use Rattle.std.proofs.Math.Option.{none, some}
 use Rattle.automaton.specs.declared.Rule.{Rule}

@@ -9,13 +9,13 @@
 --                          to pairs of which no two are the same, and none of these texts is later
 --                          than any on which the two rules differ. The empty set counts like any
 --                          other
---   pairConditions ..      the first rule's conditions of R-3, then the second's, then 36: different
+--   pair_conditions ..     the first rule's conditions of R-3, then the second's, then 36: different
 --                          k
---   pairNumber one two     the number of the first that holds
+--   pair_number one two    the number of the first that holds
 --   Searched one two       none of them holds, and there are not too many pairs
 --   Comparison             an answer: a rule with a text that it alone accepts, that the two accept
 --                          the same, or a refusal with its number
---   ofRule which x y       what belongs to this rule: x to the first, and y to the second
+--   of_rule which x y      what belongs to this rule: x to the first, and y to the second
 --   exchanged a            the answer a with the rules' names exchanged
 --   Due one two a          a is the answer that is due: the number of those conditions, then 45;
 --                          else the first text that tells the two apart, or the same where none does

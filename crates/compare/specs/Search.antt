@@ -3,17 +3,17 @@
 -- pair of which exactly one set has a final state has the text. Nothing here needs to be believed:
 -- specs/Claims.antt says that it gives the answer that is due.
 --
---   pairWalk, firstPair, reachedPairs, reachedTable   the pairs in number order, and the table of
+--   pair_walk, first_pair, reached_pairs, reached_table  the pairs in number order, and the table of
 --                            what each leads to by each symbol
---   firstPairs one two       the first 512 pairs
---   foundFirst one two       the number of the first of them that tells the two apart; how many they
+--   first_pairs one two      the first 512 pairs
+--   found_first one two      the number of the first of them that tells the two apart; how many they
 --                            are where none does
---   toldApart one two        some pair of the first 512 does
---   manyPairs one two        there are more, and none of the first 512 tells them apart
---   compareNumber one two    the number with which the two are refused
+--   told_apart one two       some pair of the first 512 does
+--   many_pairs one two       there are more, and none of the first 512 tells them apart
+--   compare_number one two   the number with which the two are refused
 --   differs f g m            exactly one set of the pair m has a final state, of f and of g
---   whichOf f m              the first rule where the first set of the pair has one, else the second
---   compareOf one two        the answer
+--   which_of f m             the first rule where the first set of the pair has one, else the second
+--   compare_of one two       the answer
 use Rattle.std.specs.Prelude.{Bool, false, cond, not, List, [], ◌∷◌, ◌++◌, ℕ, ltb, length, get_or, take}
 use Rattle.std.proofs.Math.Option.{Option, none, some}
 use Rattle.limits.specs.Limits.{most_sets}

@@ -1,13 +1,13 @@
 -- Rules compared by hand: one list, and one claim over it. proofs/Examples.antt proves the claim.
 --
---   ruleA          rule A of document 01, the texts that end in 0 1 (crates/rulecheck)
---   ruleD          the same texts, by a rule with one run for each text: the states are what the text
+--   rule_A         rule A of document 01, the texts that end in 0 1 (crates/rulecheck)
+--   rule_D         the same texts, by a rule with one run for each text: the states are what the text
 --                  ends in, something else, 0, and 0 1
---   allTexts       rule A with state 0 final too: every text
---   noneBefore     rule A without the arc from 0 by 1: the texts that have one 1, which ends them, and
+--   all_texts      rule A with state 0 final too: every text
+--   none_before    rule A without the arc from 0 by 1: the texts that have one 1, which ends them, and
 --                  some 0 before it
---   endsIn00       rule A with its last arc by 0: the texts that end in 0 0
---   noStart, noEnd rules without an initial state, and without a final one: no text
+--   ends_in00      rule A with its last arc by 0: the texts that end in 0 0
+--   no_start, no_end rules without an initial state, and without a final one: no text
 --   case one two a   the rules one and two, compared, have the answer a
 --   pairs          the list
 --   Answered cases each has the answer beside it

@@ -1,4 +1,6 @@
 // Two rules compared: the first text that exactly one of the two accepts, and which one.
+#![tactic(auto)]
+
 ghost use Rattle.std.specs.Prelude.{◌≡◌, ◌≤◌, take};
 ghost use Rattle.limits.specs.Limits.{most_sets};
 ghost use Rattle.automaton.specs.Rules.{WellFormed};

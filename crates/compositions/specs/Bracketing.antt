@@ -4,7 +4,7 @@
 --   leaves t           the values that stand in it, the first first
 --   Associative op     the operation op is associative
 --   value_of op t       what the values come to by the operation op, in these brackets
---   foldFrom op a s    the value a, and behind it the values s, bracketed to the right
+--   fold_from op a s   the value a, and behind it the values s, bracketed to the right
 use Rattle.std.specs.Prelude.{◌≡◌, List, [], ◌∷◌, ◌++◌}
 
 pub data Bracketed (A : Type 0) : Type 0 where

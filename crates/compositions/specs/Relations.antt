@@ -2,7 +2,7 @@
 -- related to.
 --
 --   image_of n f m      every number that the relation f leads to from a member of the set m
---   composeOf n f g    first f, then g
+--   compose_of n f g   first f, then g
 use Rattle.std.specs.Prelude.{List, ℕ, get_or}
 use Rattle.base.specs.Lists.{list_from}
 use Rattle.masks.specs.Masks.{union}

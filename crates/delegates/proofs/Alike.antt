@@ -1,8 +1,8 @@
 -- The laws of alike states, live states and delegates, for every automaton. Assumes nothing.
 --
---   one-lowest, own-lowest    of the lowest alike states
---   said-some, said-none      what a list of delegates says of a state
---   merged_some, merged-in    what a list of the automaton's delegates says
+--   one_lowest, own_lowest    of the lowest alike states
+--   said_some, said_none      what a list of delegates says of a state
+--   merged_some, merged_in    what a list of the automaton's delegates says
 use mathlib.Core.Path.{◌≡◌, refl, sym, ap, ◌∙◌, subst}
 use mathlib.Core.Logic.{◌↔◌}
 use mathlib.Core.List.{List, []}

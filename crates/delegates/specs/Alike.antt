@@ -7,14 +7,14 @@
 --   Lowest a q d        d is the lowest state alike to q
 --   Delegate a q o      o is the delegate of q: none exactly where no final state can be reached,
 --                       else the lowest state alike to q
---   delegateIn d q      the delegate of q in the list d, where any number from 32 on says that
+--   delegate_in d q     the delegate of q in the list d, where any number from 32 on says that
 --                       there is none
---   delegateCell o      the number by which a list of delegates says o
---   ofDelegate f o      the set f x of the delegate x, and the empty set where there is none
+--   delegate_cell o     the number by which a list of delegates says o
+--   of_delegate f o     the set f x of the delegate x, and the empty set where there is none
 --   start_set d n        the starts, as a set: the states below n that are their own delegate,
 --                       where d lists each state's delegate and n is at most 32, so that a number
 --                       that says none is no state below n
---   startCount d n      M: how many they are
+--   start_count d n     M: how many they are
 --   Merged a d m        d lists the delegate of each state, with zeros after them, and m is M
 use Rattle.std.specs.Prelude.{◌≡◌, ◌↔◌, cond, List, ℕ, zero, suc, ◌+◌, ◌≤◌, ◌<◌, eqb, ltb, length, get_or}
 use Rattle.std.proofs.Math.Option.{Option, none, some}

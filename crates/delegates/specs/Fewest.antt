@@ -2,7 +2,7 @@
 --
 --   Covers a S      S is a choice of starting states, as a list of any numbers: each state from
 --                   which a final state can be reached has an alike one in it
---   startList d n   the starts, as a list, the highest first: the states below n that are their own
+--   start_list d n  the starts, as a list, the highest first: the states below n that are their own
 --                   delegate, where d lists each state's delegate
 use Rattle.std.specs.Prelude.{◌≡◌, ◌↔◌, cond, List, [], ◌∷◌, ℕ, zero, suc, ◌≤◌, ◌<◌, eqb, length, get_or}
 use Rattle.automaton.specs.Automaton.{Automaton}

@@ -1,6 +1,8 @@
 // The delegates of states and the number of starts, by the classes of alike sets (Moore's
 // refinement): a state whose set is in the class of the empty set leads nowhere and has none. 512
 // stands for the empty set, and so does any number above it in the next-set table.
+#![tactic(auto)]
+
 ghost use Rattle.std.specs.Prelude.{◌≡◌, ◌≤◌, ◌<◌, length};
 ghost use Rattle.limits.specs.Limits.{most_states, most_symbols, empty_set, most_classes};
 ghost use Rattle.delegates.specs.Alike.{delegate_in};

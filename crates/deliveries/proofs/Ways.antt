@@ -1,8 +1,8 @@
 -- Each way out of `attempt_of`, and each way from an attempt to the outcome of a delivery. Assumes
 -- nothing.
 --
---   foreign-text, late-text, text-run   attemptOf
---   refused-attempt, kept-attempt       deliverOf, once 21, 11 and 12 do not hold
+--   foreign_text, late_text, text_run   attempt_of
+--   refused_attempt, kept_attempt       deliver_of, once 21, 11 and 12 do not hold
 use mathlib.Core.Path.{◌≡◌, refl, sym, ap, ◌∙◌}
 use mathlib.Core.Bool.{Bool, true, false}
 use mathlib.Core.List.{List}

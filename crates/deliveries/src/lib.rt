@@ -1,5 +1,7 @@
 // What a delivery comes to once its place and its length are known: the text of the chunk is
 // checked and run. It is given the tables of the rule, and copies none.
+#![tactic(auto)]
+
 ghost use Rattle.std.specs.Prelude.{◌≡◌, ◌≤◌, length};
 ghost use Rattle.limits.specs.Limits.{longest_chunk};
 ghost use Rattle.marks.specs.Marks.{text_of};

@@ -4,20 +4,20 @@
 -- and of the replies to them; beside these only of the fields in which the judge keeps what stands
 -- (the structs Judge, Built and Board), and of what contracts ask and allow:
 --
---   1  Asks, May; judgeLibrary   what contracts ask and allow          histories/specs/Functions
---      cLibrary                  the same of the functions for C       demands/specs/Functions
+--   1  Asks, May; judge_library   what contracts ask and allow          histories/specs/Functions
+--      c_library                 the same of the functions for C       demands/specs/Functions
 --      Execution l h rs j        calls made through functions          executions/specs/Executions
---      Call; Reply, refusalOf    01's calls; its answers               calls/specs/Calls, Replies
+--      Call; Reply, refusal_of   01's calls; its answers               calls/specs/Calls, Replies
 --   2  Automaton, Run, Accepts   automata and their runs (000)         automaton/specs/Automaton
---      Source, automatonBy       a rule as a value, or a file's bytes  transcripts/specs/Standing
---      automatonOf, automatonIn  the automaton of each                 automaton/, ruleformat/specs
+--      Source, automaton_by      a rule as a value, or a file's bytes  transcripts/specs/Standing
+--      automaton_of, automaton_in  the automaton of each                 automaton/, ruleformat/specs
 --      Method, TooMany           sets, order, table, delegates, M      histories/specs/Method
 --      Alike, Live, Delegate     merged starts, of live states (R-7)   delegates/specs/Alike
---   3  standingAfter h rs        what stands after calls with replies  transcripts/specs/Standing
+--   3  standing_after h rs        what stands after calls with replies  transcripts/specs/Standing
 --      Started, LookedUp, SumIs  running it, by runs of the automaton  transcripts/specs/Runs
 --      Answers, Right            01's answer to a call; to every call  transcripts/specs/Answers
---      fileConditions            1 to 8; of a value ruleConditions     ruleformat/, rulecheck/specs
---      openConditions ..         10 to 13 and 20 to 23                 calls/specs/Calls
+--      file_conditions           1 to 8; of a value rule_conditions     ruleformat/, rulecheck/specs
+--      open_conditions ..        10 to 13 and 20 to 23                 calls/specs/Calls
 --      FirstHolds, NoneHolds     the first condition that holds; none  base/specs/Conditions
 --      Holds; VerdictIs          what the judge holds; the verdict     transcripts/specs/Claims
 --

@@ -1,11 +1,11 @@
 -- EVERY NUMBER THAT C IS GIVEN by the judge's functions, to the last field, whatever the judge.
 -- To believe the theorems, read the definitions that they name:
 --
---   installShown .. readShown     the numbers that C is given         capi/specs/Numbers
+--   install_shown .. read_shown   the numbers that C is given         capi/specs/Numbers
 --   Laws; FlagLaw                 each field of them, the kinds       capi/, flags/specs
 --   RefusedFromC, NoVerdictFromC  what a refused call gives C         demands/specs/Shown
 --   MayBegin .. MayRead           what contracts allow                demands/specs/Functions
---   installOf .. reportOf         the outcome of a call on any state  calls/specs/mirror/Steps
+--   install_of .. report_of       the outcome of a call on any state  calls/specs/mirror/Steps
 --   read_of f                      reading a file                      ruleformat/specs/Reader
 --
 -- Assumes nothing.

@@ -4,9 +4,9 @@
 -- of them rests on its own text. To believe the theorems, read the definitions that they name:
 --
 --   step_of j c                     the outcome of a call on any state   calls/specs/mirror/Steps
---   judgeAfter h, repliesTo h      the outcome of a list of calls       histories/specs/Claims
---   standing, verdictIn, answerOf  what 01 says of a list alone         histories/specs/History
---   Accepted-exactly, Refused-..   which calls, with which number       histories/specs/Conditions
+--   judge_after h, replies_to h    the outcome of a list of calls       histories/specs/Claims
+--   standing, verdict_in, answer_of  what 01 says of a list alone         histories/specs/History
+--   AcceptedExactly, Refused-..    which calls, with which number       histories/specs/Conditions
 --   VerdictSays, Says              what the reply to a verdict says     histories/specs/Claims
 --   CountAt, SumIs                 counts by runs of the automaton      transcripts/specs/Runs
 --   LastRule .. LastStanding       by the last accepted call of a kind  histories/specs/Last

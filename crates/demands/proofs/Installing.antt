@@ -2,8 +2,8 @@
 -- 6 or 8 as installing would." Of every value, exactly; later pages cite it. To believe it, read
 -- the definitions that it names:
 --
---   ruleNumber r      the number of a rule as a value    rulecheck/specs/Checking
---   installNumber r   that of its installation           calls/specs/Calls
+--   rule_number r     the number of a rule as a value    rulecheck/specs/Checking
+--   install_number r  that of its installation           calls/specs/Calls
 --
 -- Assumes nothing.
 -- All that they rest on stands in these files of specs/ (tests/believed):

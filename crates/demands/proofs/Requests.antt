@@ -2,14 +2,14 @@
 -- sentence. A request that brought functions of its own has a page in crates/requests. To believe
 -- the theorems, read the definitions that they name:
 --
---   reportBy; Divided, ThreeZeros  what is reported with a verdict  calls/specs/Calls, Claims
+--   report_by; Divided, ThreeZeros  what is reported with a verdict  calls/specs/Calls, Claims
 --   LookedUp                       bytes for which a set is looked up transcripts/specs/Runs
---   readOf f, ReadLaw; LoadIs      reading a file; a load           ruleformat/, calls/specs
+--   read_of f, ReadLaw; LoadIs     reading a file; a load           ruleformat/, calls/specs
 --   CountBound                     the sum's bound; the former 24   histories/specs/CountBound
 --   text_of; foreign, ForeignByte   a chunk without idle marks; 13   marks/, chunks/, calls/specs
 --   MarksSkipped                   idle marks                       calls/specs/Claims
 --   SameAnswer; FormerMerged ..    the former starts and join       histories/, joins/specs
---   lastRevision, leastAfter       revisions at a place             histories/specs/History, Claims
+--   last_revision, least_after     revisions at a place             histories/specs/History, Claims
 --   Orders; Revisions              deliveries in any order          histories/specs
 --   Fewest, Covers                 the fewest starts                histories/, delegates/specs
 --

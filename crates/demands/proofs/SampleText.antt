@@ -4,9 +4,9 @@
 --                   and its answer
 --   Right h es      each line is read as its call or question, and its answer is the right one after the
 --                   calls h and those of the lines before it
---   answerWith s    what is answered to a call, with the starts s put in for the rule's own: those
+--   answer_with s   what is answered to a call, with the starts s put in for the rule's own: those
 --                   do not compute, and `starts_A` says what they are
---   rightWith live  what is answered to a question, with the live states put in: it would take long to
+--   right_with live  what is answered to a question, with the live states put in: it would take long to
 --                   compute them at each question
 use mathlib.Core.Path.{◌≡◌, refl, ap, ap₂, ◌∙◌}
 use mathlib.Core.Bool.{Bool, cond, not}

@@ -3,19 +3,19 @@
 -- To believe them, read the definitions that they name, and of the demands' page what document 01
 -- says of a list of calls:
 --
---   rightText; callLines           a text of calls; the lines' machine   stream/specs/Texts
---   rightTo                        the right answer to a question        stream/specs/Texts
---   listText; list_of, skippedLines lists that a malformed line ends      linetexts/specs/Lists
---   lines_of; lineIn, responseText  lines, calls and answers as text      lines/, calltext/specs
---   meaningIn, SaysQuestion, ..    a line of a text; which lines ask     questions/specs
+--   right_text; call_lines         a text of calls; the lines' machine   stream/specs/Texts
+--   right_to                       the right answer to a question        stream/specs/Texts
+--   list_text; list_of, skipped_lines lists that a malformed line ends    linetexts/specs/Lists
+--   lines_of; line_in, response_text  lines, calls and answers as text      lines/, calltext/specs
+--   meaning_in, SaysQuestion, ..   a line of a text; which lines ask     questions/specs
 --   Diagnosed, Spotted             what a list says of a lost trace      losses/specs/Losses, Spots
---   streamOf, Blocks; finishOf     what is written for blocks            linetexts/specs/Claims, Feeding
+--   stream_of, Blocks; finish_of   what is written for blocks            linetexts/specs/Claims, Feeding
 --   Gathers; FedBlocks             a round; blocks through functions     linetexts/specs/Feeding, Functions
 --   MayGather, MayFinish           what their contracts allow            demands/specs/TextFunctions
 --   SaysCall; SaysNumber, ..       which lines and fields say what       calltext/, fields/specs/Claims
---   recordIn, replayOf             a recorded list                       replay/specs/Records
+--   record_in, replay_of           a recorded list                       replay/specs/Records
 --   FirstMalformed                 the first line that is malformed      replay/specs/Claims
---   packedOf, ruleAt               a rule's bytes; the rule of bytes     packed/specs/Packed
+--   packed_of, rule_at             a rule's bytes; the rule of bytes     packed/specs/Packed
 --   answers, digits                answers and hex digits, worked        calltext/, fields/specs/Worked
 --   NoFeed                         bytes without a line feed             lines/specs/Claims
 --

@@ -2,7 +2,7 @@
 -- (`Reads.Learnt`), over what is left between the blocks of a text: any result and any last buffers
 -- that a contract does not rule out.
 --
---   pendingOf s     what the code keeps of the state s beside the judge and the line's buffer
+--   pending_of s    what the code keeps of the state s beside the judge and the line's buffer
 --   MayGather       what `gather` may do (linetexts/specs/Functions says of which numbers)
 --   MayFinish       what `finish` may do
 use Rattle.std.specs.Prelude.{◌≡◌, List, ℕ}

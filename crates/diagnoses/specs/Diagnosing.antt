@@ -3,14 +3,14 @@
 -- what it is after a list of calls.
 --
 --   Finding                what a diagnosis says
---     refusedAs x          refused with the number x
---     lostAt p             the trace is lost at place p
---     openWith m           it is not lost, and the first m places are filled
---   diagnosisMeans         what each case of the code's answer says
---   findFrom empty lost p f   from place p on, where f places are left: the first that is empty, or
+--     refused_as x         refused with the number x
+--     lost_at p            the trace is lost at place p
+--     open_with m          it is not lost, and the first m places are filled
+--   diagnosis_means        what each case of the code's answer says
+--   find_from empty lost p f  from place p on, where f places are left: the first that is empty, or
 --                          past whose chunk the trace is lost
---   lostAfter ends d n m p    C after the first p places has no member that has a delegate
---   diagnosisOf j          the diagnosis of the state j: 21 where no board is there
+--   lost_after ends d n m p   C after the first p places has no member that has a delegate
+--   diagnosis_of j         the diagnosis of the state j: 21 where no board is there
 use Rattle.std.specs.Prelude.{Bool, cond, List, ℕ, zero, suc, eqb}
 use Rattle.chunks.specs.mirror.Walks.{delegate_mask}
 use Rattle.board.specs.Boards.{places_of, is_empty}

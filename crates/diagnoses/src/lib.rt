@@ -1,6 +1,8 @@
 // Where a trace is lost: the first place after whose chunk no text can follow that the rule accepts.
 // It is known as soon as the places up to there are filled. Nothing is changed, and no byte of a
 // chunk is looked at.
+#![tactic(auto)]
+
 ghost use Rattle.std.specs.Prelude.{◌≡◌, suc, ◌≤◌, eqb, get_or};
 ghost use Rattle.limits.specs.Limits.{most_places};
 ghost use Rattle.diagnoses.specs.Diagnosing.{diagnosis_means, find_from, lost_after, diagnosis_of};

@@ -1,12 +1,12 @@
 -- The laws of digests. Assumes nothing.
 --
---   step-sums          half a step, as the code does it with sums that wrap
---   step-halves        a step is two of these
---   digest-below       a digest is a number of 64 bits
+--   step_sums          half a step, as the code does it with sums that wrap
+--   step_halves        a step is two of these
+--   digest_below       a digest is a number of 64 bits
 --   from-append        one list of numbers behind another
---   Left, left-all, left-fewer, left-none   the cells that are left
+--   Left, left_all, left_fewer, left_none   the cells that are left
 --   first_of           the first cells of an array that is made cell by cell
---   digest-parts       the digest of a built rule, part by part
+--   digest_parts       the digest of a built rule, part by part
 use Rattle.std.proofs.Common.{◌≡◌, ℕ, suc, ◌+◌, ◌-◌, ◌*◌, ◌/◌, ◌%◌, ◌^◌, ◌<◌, ◌≤◌, List, [], ◌∷◌, ◌++◌, get_or, sym, refl, ap, ◌∙◌, mod-lt, add-one, arith, lit<}
 use native.Mathlib.Nat.{mod-add-mod}
 use Rattle.base.specs.Lists.{list_from}

@@ -4,17 +4,17 @@
 -- same says nothing for certain.
 --
 --   stirred t          the number t of 64 bits, with its high bits added to its low ones
---   halfStep h x       the digest h with the number x, below 65,536, behind it
---   digestStep h x     the digest h with the number x behind it, its low 16 bits first. What two
+--   half_step h x      the digest h with the number x, below 65,536, behind it
+--   digest_step h x    the digest h with the number x behind it, its low 16 bits first. What two
 --                      neighbouring halves differ by cannot cancel: 131,073 is more than twice 65,535
---   digestFrom h xs    the digest h with the numbers xs behind it
---   firstCells l n     the first n cells of an array
---   setsIn b           how many sets the built rule b has, at most 512
+--   digest_from h xs   the digest h with the numbers xs behind it
+--   first_cells l n    the first n cells of an array
+--   sets_in b          how many sets the built rule b has, at most 512
 --   digested b         the numbers that its digest is made of, in order: n, k, the initial and the
 --                      final states, the delegate of each of 32 states, the number of {q} for each,
 --                      the number of sets, the mask of each set, and the 16 cells of each set's row
 --                      in the next-set table
---   digestOf b         its digest
+--   digest_of b        its digest
 use Rattle.std.specs.Prelude.{ℕ, ◌+◌, ◌*◌, ◌/◌, ◌%◌, ◌^◌, min, List, [], ◌∷◌, ◌++◌, slice_index}
 use Rattle.limits.specs.Limits.{most_states, most_symbols, most_sets}
 use Rattle.base.specs.Lists.{list_from}

@@ -1,12 +1,12 @@
 -- Digests worked by another program: one list, and one claim over it; proofs/Examples.antt proves
 -- it.
 --
---   rowA, builtA       the built rule A of document 01, "Two rules by hand", every cell; its table
+--   row_A, built_A     the built rule A of document 01, "Two rules by hand", every cell; its table
 --                      has the rows that are printed there, with 512 for the empty set
---   anotherA           the same, but for one cell of its table: set 4 leads by symbol 1 to set 0
+--   another_A          the same, but for one cell of its table: set 4 leads by symbol 1 to set 0
 --   case b digest      the built rule b has that digest
 --   Digests cases      each has
-use Rattle.std.specs.Prelude.{◌≡◌, ℕ, List, [], ◌∷◌, ◌++◌, set, replicate, slice_set}
+use Rattle.std.specs.Prelude.{◌≡◌, ℕ, List, [], ◌∷◌, ◌++◌, replicate, slice_set}
 use Rattle.limits.specs.Limits.{empty_set}
 use Rattle.build.specs.declared.Built.{Built}
 use Rattle.build.specs.mirror.Building.{no_built}

@@ -1,5 +1,7 @@
 // The digest of a built rule, by which a value that was made with one rule is told from one that
 // was made with another. A guard against mistakes, not against attackers.
+#![tactic(auto)]
+
 ghost use Rattle.std.specs.Prelude.{◌≡◌, ◌≤◌, length};
 ghost use Rattle.limits.specs.Limits.{most_states, most_sets};
 ghost use Rattle.digests.specs.Digests.{half_step, digest_step, digest_from, first_cells, digest_of};

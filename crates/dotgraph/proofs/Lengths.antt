@@ -1,12 +1,12 @@
 -- How long the parts of the drawing are at most. A number that is drawn is below 100. Assumes
 -- nothing.
 --
---   arrow-most      8
---   state-most      25
---   initial-most    30
---   line-most       69
---   from-most       2,208 for the arrows of a state
---   dot-most        72,466
+--   arrow_most      8
+--   state_most      25
+--   initial_most    30
+--   line_most       69
+--   from_most       2,208 for the arrows of a state
+--   dot_most        72,466
 use mathlib.Core.Bool.{cond}
 use mathlib.Core.List.{List, [], ◌++◌}
 use Prim.Native.Nat.{ℕ, ◌≤◌, ◌<◌, min}

@@ -1,11 +1,11 @@
 -- What `ruledot` draws: the automaton of a rule in the language of Graphviz, as byte values, each
 -- line ended by one line feed.
 --
---   dotText r     three lines of head; a line for each state, `Q;`, or `Q [shape=doublecircle];`
+--   dot_text r    three lines of head; a line for each state, `Q;`, or `Q [shape=doublecircle];`
 --                 for a final one; two lines for each initial state, `iQ [shape=point];` and `iQ ->
 --                 Q;`; a line for each pair of states that an arc leads between, by state and
 --                 target, `Q -> T [label="LABEL"];`; and `}`. A label: dotlabels/specs/Labels.antt
---   mostBytes     so many bytes have room for the drawing of any rule (`dot_most`: proofs/Lengths.antt)
+--   most_bytes    so many bytes have room for the drawing of any rule (`dot_most`: proofs/Lengths.antt)
 use Rattle.std.specs.Prelude.{cond, List, [], ◌++◌, ℕ, ◌+◌, ◌*◌, min}
 use Rattle.limits.specs.Limits.{most_states, most_symbols}
 use Rattle.base.specs.Lists.{joined}

@@ -1,5 +1,7 @@
 // Draws the automaton of a rule as Graphviz text into a lent buffer. A number that is drawn has at
 // most two digits.
+#![tactic(auto)]
+
 ghost use Rattle.std.specs.Prelude.{◌+◌, ◌*◌, ◌≤◌, ◌<◌, length};
 ghost use Rattle.limits.specs.Limits.{most_states, most_symbols};
 ghost use Rattle.base.specs.Lists.{joined};

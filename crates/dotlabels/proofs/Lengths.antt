@@ -2,9 +2,9 @@
 --
 --   both            two parts have the room of both
 --   one_of          one of two parts has the room of either
---   number-most     2
---   piece-most      3
---   label-most      48
+--   number_most     2
+--   piece_most      3
+--   label_most      48
 use mathlib.Core.Bool.{Bool, true, false, cond}
 use mathlib.Core.List.{List, [], ◌++◌}
 use Prim.Native.Nat.{ℕ, ◌+◌, ◌≤◌, ◌<◌}

@@ -5,7 +5,7 @@
 --   label p k     the numbers of which p holds, none from k on, joined by commas, three or more in
 --                 a row as a range: `0,1`, `0-5`, `0,2-5,7`
 --   piece p s     what the label has for the number s
---   firstPiece, lastPiece   the same for the first and the last number of a row
+--   first_piece, last_piece  the same for the first and the last number of a row
 --   comma, dash   the signs between numbers
 use Rattle.std.specs.Prelude.{Bool, cond, ◌&&◌, List, [], ◌∷◌, ◌++◌, ℕ, ◌+◌, ◌-◌, ltb, leb}
 use Rattle.base.specs.Lists.{joined}

@@ -1,5 +1,7 @@
 // Writes the label of an arrow of a drawing into a lent buffer: the symbols by which arcs lead from
 // one state to another. A number that is drawn has at most two digits.
+#![tactic(auto)]
+
 ghost use Rattle.std.specs.Prelude.{◌≡◌, [], ◌∷◌, ◌++◌, ◌+◌, ◌*◌, ◌≤◌, ◌<◌, length};
 ghost use Rattle.limits.specs.Limits.{most_states, most_symbols};
 ghost use Rattle.base.specs.Conditions.{any_below};

@@ -1,7 +1,7 @@
 -- The answers of drawing a file. Assumes nothing.
 --
 --   drew, refused   the rule is drawn; the file is refused and nothing is drawn
---   drawn-most      a drawing's length has its bound
+--   drawn_most      a drawing's length has its bound
 use mathlib.Core.Path.{◌≡◌, sym, ap, ◌∙◌}
 use mathlib.Core.List.{List, ◌++◌}
 use mathlib.Core.Option.{Option, none, some}

@@ -2,9 +2,9 @@
 -- numbered for it.
 --
 --   DrawingReply   a drawing of so many bytes, or a refusal with its number
---   drawingMeans   what each case of the code's answer says
---   drawingFor f   the drawing of the rule in the file f; nothing where the reader refuses the file
---   replyFor f     the length of that drawing; or the number, 1 to 8, with which the reader refuses
+--   drawing_means  what each case of the code's answer says
+--   drawing_for f  the drawing of the rule in the file f; nothing where the reader refuses the file
+--   reply_for f    the length of that drawing; or the number, 1 to 8, with which the reader refuses
 --   Draws f ..     that is said, and the drawing stands at the start of the buffer; what lies past
 --                  it is left as it was
 use Rattle.std.specs.Prelude.{◌≡◌, List, [], ◌++◌, ℕ, length, drop}

@@ -4,7 +4,7 @@
 --
 --   Machine              the state to begin with, and of each state and call the reply and the next
 --                        state
---   stateAfter, repliesTo    the state that the calls leave, and the replies to them
+--   state_after, replies_to  the state that the calls leave, and the replies to them
 --   Library              what functions ask and allow by their contracts: `NewAsks` and `Asks s c`
 --                        what must hold before a new state is asked for and before the call c on
 --                        the state s; `Begins s` that a new state is s, `May s c r t` that on the

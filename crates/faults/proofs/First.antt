@@ -2,7 +2,7 @@
 --
 --   first_next            one number more
 --   first_more            none so far, and none here
---   first-here            none so far, and one here
+--   first_here            none so far, and one here
 --   none_found            none there is exactly where there is none of each
 --   one_found             x is the first exactly where some number has it, and none before has any
 --   first-same            of the same values

@@ -1,10 +1,10 @@
 -- One turn of the loops over the rows of a band: a row, and an event of a column. Assumes nothing.
 --
 --   row_fits, row_next        a row's cells, and where the next one begins
---   row_is, event-is          the row that begins at a cell, and its event of a column
+--   row_is, event_is          the row that begins at a cell, and its event of a column
 --   wrong, right, all_right   the rows of a band: this one is not accepted; it is; all are
 --   set_next                  the set after a column, with one row more
---   stuck-here, on-here, all-on   no live state is left; one is; one is to the end
+--   stuck_here, on_here, all_on   no live state is left; one is; one is to the end
 use mathlib.Core.Path.{◌≡◌, sym, ap, ◌∙◌}
 use mathlib.Core.Bool.{Bool, true, false, not, cond}
 use mathlib.Core.List.{List, [], ◌∷◌}

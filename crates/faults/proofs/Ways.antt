@@ -1,13 +1,13 @@
 -- One lemma over plain variables for each way out of a search. Assumes nothing.
 --
---   found-empty, past-full, none-empty     the bands before the first empty one
---   answer-found, answer-none, all_done    an answer is what is found; it has none; all are passed
---   way-stuck, way-ends, band-walked       a column is lost; it is not; one band more of it
---   lost-first, column-lost, column-ends   the ways out of a column
---   short-was, short-not, short-now        a short column: an earlier one, none, this one
---   lost-or-short, none-lost, short-next, only-short, not_full   all columns
---   fault-found, fault-open                the ways out beyond the rows
---   fault-21, fault-row, fault-beyond      those of the whole
+--   found_empty, past_full, none_empty     the bands before the first empty one
+--   answer_found, answer_none, all_done    an answer is what is found; it has none; all are passed
+--   way_stuck, way_ends, band_walked       a column is lost; it is not; one band more of it
+--   lost_first, column_lost, column_ends   the ways out of a column
+--   short_was, short_not, short_now        a short column: an earlier one, none, this one
+--   lost_or_short, none_lost, short_next, only_short, not_full   all columns
+--   fault_found, fault_open                the ways out beyond the rows
+--   fault_21, fault_row, fault_beyond      those of the whole
 use mathlib.Core.Path.{◌≡◌, refl, sym, ap, ap₂, ◌∙◌}
 use mathlib.Core.Bool.{Bool, true, false, cond, not}
 use mathlib.Core.List.{List}

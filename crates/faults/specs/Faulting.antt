@@ -3,27 +3,27 @@
 -- after a list of calls.
 --
 --   Finding                  what is found
---     refusedAs x            refused with the number x
+--     refused_as x           refused with the number x
 --     row_at b i              row i of band b is not accepted
---     columnAt c b i         column c is lost with row i of band b
+--     column_at c b i        column c is lost with row i of band b
 --     short_at c              column c is not accepted, though it could go on
---     openWith m             none of these, and m bands stand before the first empty one
---   faultMeans               what each case of the code's answer says
---   foundMeans, Way, walkMeans   the same of the code's answers on the way: a finding or nothing; a
+--     open_with m            none of these, and m bands stand before the first empty one
+--   fault_means              what each case of the code's answer says
+--   found_means, Way, walk_means  the same of the code's answers on the way: a finding or nothing; a
 --                            column is lost, or the set after its rows
---   wayBy o m                the column is lost with the finding o, or the set after it is m
---   bandWrong r b rows       the first of the rows, which are those of band b, that r does not
+--   way_by o m               the column is lost with the finding o, or the set after it is m
+--   band_wrong r b rows      the first of the rows, which are those of band b, that r does not
 --                            accept
---   rowsWrong r at n         the first of the rows `at 0`, .. `at (n − 1)` of n bands
---   bandStuck ts live c m b rows   the first of the rows with which no state of `live` is left in
+--   rows_wrong r at n        the first of the rows `at 0`, .. `at (n − 1)` of n bands
+--   band_stuck ts live c m b rows  the first of the rows with which no state of `live` is left in
 --                            the set after column c, from m
---   columnStuck ts live c m at n   the same through n bands; row 0 of band 0 where none is in m
---   columnsStuck r at w n    the first of w columns that is lost
---   columnsShort r at w n    the first of w columns that is not accepted
---   beforeEmpty empty n      how many of n bands stand before the first empty one
---   faultBy ..               what is found: by whether no board is there, the two rules, the width,
+--   column_stuck ts live c m at n  the same through n bands; row 0 of band 0 where none is in m
+--   columns_stuck r at w n   the first of w columns that is lost
+--   columns_short r at w n   the first of w columns that is not accepted
+--   before_empty empty n     how many of n bands stand before the first empty one
+--   fault_by ..              what is found: by whether no board is there, the two rules, the width,
 --                            the rows of each band, which are empty, and how many there are
---   faultOf t                what is found in the state t
+--   fault_of t               what is found in the state t
 use Rattle.std.specs.Prelude.{Bool, cond, List, [], ℕ, suc, eqb, length, get_or, take}
 use Rattle.std.proofs.Math.Option.{Option, none, some}
 use Rattle.masks.specs.Masks.{shares}

@@ -1,8 +1,8 @@
 -- The first of several values that may be missing.
 --
 --   or_else o u       o, and u where o is missing
---   orThen o x       the value of o, and x where it is missing
---   firstFound f n   the first of f 0, f 1, .. f (n − 1) that there is
+--   or_then o x      the value of o, and x where it is missing
+--   first_found f n  the first of f 0, f 1, .. f (n − 1) that there is
 use Rattle.std.proofs.Math.Option.{Option, none, some}
 use Rattle.std.specs.Prelude.{ℕ, zero, suc}
 

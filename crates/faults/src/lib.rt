@@ -1,6 +1,8 @@
 // Where a tray goes wrong: the first row that is not accepted, else the first column that can no
 // longer become accepted, with the row by which it is lost. Nothing is changed, and it is known
 // before every band is there.
+#![tactic(auto)]
+
 ghost use Rattle.std.specs.Prelude.{◌≡◌, cond, ◌+◌, ◌*◌, ◌≤◌, ◌<◌, eqb, length, get_or, drop};
 ghost use Rattle.std.proofs.Math.Option.{none, some};
 ghost use Rattle.masks.specs.Masks.{shares};

@@ -1,6 +1,6 @@
 -- What a field says, digit by digit. Assumes nothing.
 --
---   saidFrom v w   what the digits w say after digits of the value v
+--   said_from v w  what the digits w say after digits of the value v
 --   said-…         at the end, by a digit, by another byte, and past 64 bits
 use mathlib.Core.Path.{◌≡◌}
 use mathlib.Core.Bool.{cond, ◌&&◌, and-false}

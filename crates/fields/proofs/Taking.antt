@@ -1,8 +1,8 @@
 -- What reading a field of bytes into a lent buffer leaves there. Assumes nothing.
 --
---   carries, not-bytes        the field says bytes, of which those that fit are at the buffer's
+--   carries, not_bytes        the field says bytes, of which those that fit are at the buffer's
 --                             beginning; or it says none
---   put-prefix, put-within    the bytes that were put are within the buffer
+--   put_prefix, put_within    the bytes that were put are within the buffer
 use mathlib.Core.Path.{◌≡◌, refl, sym, ap, ◌∙◌, subst}
 use mathlib.Core.List.{List}
 use mathlib.Core.Option.{Option, none, some}

@@ -1,12 +1,12 @@
 -- Bytes in a line that records a call: one or more pairs of hex digits of either case, or `-` for
 -- no bytes.
 --
---   hexValue c     the value of the hex digit c; 16 for any other byte
---   allHex w       each byte of w is a hex digit
+--   hex_value c    the value of the hex digit c; 16 for any other byte
+--   all_hex w      each byte of w is a hex digit
 --   pairs w        the bytes that the pairs of hex digits w stand for, the high digit first
---   isBytes w      the field w is pairs of hex digits, at least one
---   parseBytes w      the bytes that the field w says, if it says bytes
---   bytesMeans r    how many bytes each case of the code's answer says were put, if it was no
+--   is_bytes w     the field w is pairs of hex digits, at least one
+--   parse_bytes w     the bytes that the field w says, if it says bytes
+--   bytes_means r   how many bytes each case of the code's answer says were put, if it was no
 --                   refusal
 --   Took           what reading the field w into a lent buffer does: the bytes go to its beginning,
 --                  as many as fit; a refusal changes nothing

@@ -6,7 +6,7 @@
 --   field_of b        the bytes b as a field: two hex digits a byte, or `-` for none
 --   SaysNumber x n   the field x is the decimal digits of n, a number of 64 bits, with zeros before
 --                    them or without, 20 bytes at most
---   upperCase w      w with each of the letters a to f as A to F
+--   upper_case w     w with each of the letters a to f as A to F
 --   SaysBytes x b    the field x is that of the bytes b, but for the case of its hex digits
 use Rattle.std.specs.Prelude.{◌≡◌, ◌↔◌, cond, List, [], ◌∷◌, ◌++◌, ℕ, ◌-◌, ◌<◌, ◌≤◌, length, replicate}
 use Rattle.std.proofs.Math.Option.{some}

@@ -1,11 +1,11 @@
 -- A number in a line that records a call: 1 to 20 decimal digits with a value of at most
 -- 18446744073709551615. Leading zeros are let in.
 --
---   allDigits w    each byte of w is an ASCII decimal digit
+--   all_digits w   each byte of w is an ASCII decimal digit
 --   value_of w      the value of the digits w, the highest first
 --   is_number w     the field w is such a number
---   parseNumber w     the number that the field w says, if it is one
---   numberMeans r   what each case of the code's answer says
+--   parse_number w    the number that the field w says, if it is one
+--   number_means r  what each case of the code's answer says
 use Rattle.std.specs.Prelude.{Bool, true, cond, ◌&&◌, List, [], ◌∷◌, ℕ, ◌+◌, ◌*◌, ◌-◌, leb, length}
 use Rattle.std.proofs.Math.Option.{Option, none, some}
 use Rattle.limits.specs.Limits.{largest_number, most_digits}

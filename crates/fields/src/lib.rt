@@ -1,4 +1,6 @@
 // Reads the fields of a line that records a call.
+#![tactic(auto)]
+
 ghost use Rattle.std.specs.Prelude.{◌≡◌, true, length, take};
 ghost use Rattle.text.specs.Writing.{Wrote};
 ghost use Rattle.fields.specs.Numbers.{number_means, parse_number};

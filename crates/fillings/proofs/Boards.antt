@@ -1,7 +1,7 @@
 -- Chunks on a board as a list, and boards that are filled with a list of chunks. Assumes nothing.
 --
 --   filled        a board without an empty place is filled with a list of chunks
---   text-is       the text on a filled board is the chunks' texts joined
+--   text_is       the text on a filled board is the chunks' texts joined
 --   taken         a standing chunk meets neither 12 nor 13
 --   fillings      the calls that fill a board
 use mathlib.Core.Path.{◌≡◌, refl, sym, ap, ◌∙◌, subst}

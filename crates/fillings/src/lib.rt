@@ -1,1 +1,2 @@
 // Boards that are filled with a list of chunks: no code. specs/ says what is claimed.
+#![tactic(auto)]

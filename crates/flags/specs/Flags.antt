@@ -1,10 +1,10 @@
 -- The fields that the answers for C have in common. The header says: "Wherever accepted stands: it
 -- is 1 or 0; where it is 0, refused has the number."
 --
---   flagBy x, refusedBy x   the fields `accepted` and `refused` for the number x of a refusal, or
+--   flag_by x, refused_by x  the fields `accepted` and `refused` for the number x of a refusal, or
 --                           none: 0 and the number, or 1 and 0
---   bitBy t                 a field that is 1 where t holds, else 0
---   refusalBy a n           the number of the refusal, or none, that the two fields say
+--   bit_by t                a field that is 1 where t holds, else 0
+--   refusal_by a n          the number of the refusal, or none, that the two fields say
 --   FlagLaw x a n           the fields a and n for the number x, or none, in the header's words
 --   BitLaw t b              the same of a field that is 1 or 0
 --   Claims                  the two are so for the definitions; proofs/Flags.antt proves it

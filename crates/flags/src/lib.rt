@@ -1,5 +1,7 @@
 // What the functions for C have in common in their answers: the fields `accepted` and `refused`, and
 // a field that is 1 or 0. The rest is definitions, in specs/, and their law, in proofs/.
+#![tactic(auto)]
+
 ghost use Rattle.std.specs.Prelude.{◌≡◌};
 ghost use Rattle.base.specs.Answers.{answer_number};
 ghost use Rattle.flags.specs.Flags.{flag_by, refused_by, bit_by};

@@ -1,7 +1,7 @@
 -- Where a chunk is lost, and what is expected there. Assumes a well-formed rule.
 --
---   lost-law, kept-law   the chunk is lost at b; it is not
---   next-law             a symbol that can come next
+--   lost_law, kept_law   the chunk is lost at b; it is not
+--   next_law             a symbol that can come next
 use Rattle.std.proofs.Common.{◌≡◌, ℕ, suc, Bool, not, ◌↔◌, List, [], ◌∷◌, ◌++◌, length, take, drop, sym, ap, ◌∙◌, subst, arith, take-append-drop}
 use mathlib.Core.Option.{none, some}
 use lib.Seq.{take-length}

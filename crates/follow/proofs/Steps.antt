@@ -1,12 +1,12 @@
 -- One step of each loop, and what the search for the least number finds. Assumes nothing.
 --
---   stray-one                a byte that is neither an idle mark nor below k, by one comparison
---   stray-more               what is foreign in the bytes passed, one byte more
---   step-idle, step-symbol   the set after one byte
+--   stray_one                a byte that is neither an idle mark nor below k, by one comparison
+--   stray_more               what is foreign in the bytes passed, one byte more
+--   step_idle, step_symbol   the set after one byte
 --   after_next, after-rest   the set after one byte more, and after the rest of the chunk
---   least-none, least_at     the least number that passes a test; and back: least-nothing, least-found
+--   least_none, least_at     the least number that passes a test; and back: least-nothing, least-found
 --   Going, begun, next       as far as a chunk is not lost
---   at-end, lost-here        it is not lost; it is lost here, and the set after the rest
+--   at-end, lost_here        it is not lost; it is lost here, and the set after the rest
 use Rattle.std.proofs.Common.{◌≡◌, ℕ, zero, suc, ◌+◌, ◌-◌, ◌%◌, ◌<◌, ◌≤◌, Bool, true, false, not, ◌||◌, eqb, ltb, leb, ◌⊎◌, List, [], ◌∷◌, ◌++◌, length, get_or, take, drop, sym, refl, ap, ◌∙◌, inl, inr, ⊎_elim, le_of_suc-le-suc, eq-or-lt_of_le, add-one, arith, take-append-drop, take-suc, le-ltb, lt-ltb, eq-eqb, ne_eqb, eqb-true, leb-false, leb-true}
 use mathlib.Core.Bool.{or-false}
 use mathlib.Core.Option.{Option, none, some}

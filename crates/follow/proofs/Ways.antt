@@ -4,7 +4,7 @@
 --   no_more                symbols from 16 on lead nowhere
 --   long, strange, whole   the chunk is refused with 12, with 13, or it is followed
 --   unchecked, checked     the rule is refused by its check, or passes
---   prepared, by-any       what specs/Claims.antt says of a rule that is checked once
+--   prepared, by_any       what specs/Claims.antt says of a rule that is checked once
 use Rattle.std.proofs.Common.{◌≡◌, ℕ, zero, suc, ◌+◌, ◌-◌, ◌<◌, ◌≤◌, min, Bool, true, false, leb, List, length, sym, refl, ap, ◌∙◌, arith, leb-false, leb-true}
 use mathlib.Core.Option.{Option, none, some}
 use Rattle.base.proofs.Options.{none-some}

@@ -3,16 +3,16 @@
 --
 --   LostAt r m w b        b is the least number of bytes of the chunk w, idle marks counted, after
 --                         which no text continues it to one over which an accepting run starts in m
---   Refused-exactly r w   which number following is refused with, condition by condition
+--   RefusedExactly r w    which number following is refused with, condition by condition
 --   One r m w             what an accepted call answers, from any set m
 --   kept_set r m w         the set that the caller holds after a call: the answer's; the old one where
 --                         the chunk is refused
 --   handed r m ws         the set that is handed on from chunk to chunk, oldest first
---   keptText, takenText   the text of the chunks that were not refused, joined
+--   kept_text, taken_text  the text of the chunks that were not refused, joined
 --   Cut n first second whole   `whole` says of a chunk what `first` says of its first n bytes and `second`
 --                         of the others, from the set after those
---   Prepared-so r         what preparing the rule r answers, and following by it
---   Followed-so r ws w    what the answer for chunk w says after the chunks ws, begun with the initial
+--   PreparedSo r          what preparing the rule r answers, and following by it
+--   FollowedSo r ws w     what the answer for chunk w says after the chunks ws, begun with the initial
 --                         states
 use Rattle.std.specs.Prelude.{◌≡◌, ℕ, suc, ◌+◌, ◌-◌, ◌^◌, ◌<◌, ◌≤◌, true, false, cond, ◌⊎◌, ◌↔◌, List, [], ◌∷◌, ◌++◌, map, length, get_or, take, ◌≢◌, slice_index, slice_index_or}
 use mathlib.Core.List.{flatten}

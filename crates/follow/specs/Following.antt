@@ -1,31 +1,31 @@
 -- Following a trace that comes in order: what one call answers, over the targets `ts` of a rule, from
 -- any set of states. `live` is the mask of the states from which a final state can be reached.
 --
---   setAfter ts m w        the set after the text of the chunk w, which skips idle marks, from m
---   leastBelow t n         the least number below n that passes the test t, none where none does
---   lostBy ts live m w     the least number of bytes of the chunk w, idle marks counted, after which
+--   set_after ts m w       the set after the text of the chunk w, which skips idle marks, from m
+--   least_below t n        the least number below n that passes the test t, none where none does
+--   lost_by ts live m w    the least number of bytes of the chunk w, idle marks counted, after which
 --                          no state of `live` is in the set; none where one is to the end
 --   place_of o w            how many bytes stand before the one at which the chunk w is lost; all
 --                          where it is not
---   nextBy ts live k m     the mask of the symbols below k by which the set m leads to a state of
+--   next_by ts live k m    the mask of the symbols below k by which the set m leads to a state of
 --                          `live`
---   Walk, way_of, wayOutcome   where a chunk is lost, the set before that byte and the set after all;
+--   Walk, way_of, way_outcome  where a chunk is lost, the set before that byte and the set after all;
 --                          and what the code's value stands for
---   followNumber r w       the number with which following is refused: those of a checked rule (3, 4,
+--   follow_number r w      the number with which following is refused: those of a checked rule (3, 4,
 --                          6, 8), then those of a chunk (12, 13)
---   Outcome, followOutcome   the answer, every field; and what the code's result stands for
---   refusedFollow x        refused with the number x: zeros
---   walkBy ts finals live k m w   accepted: the set after the chunk, whether a final state is in it,
+--   Outcome, follow_outcome  the answer, every field; and what the code's result stands for
+--   refused_follow x       refused with the number x: zeros
+--   walk_by ts finals live k m w  accepted: the set after the chunk, whether a final state is in it,
 --                          where it is lost, the symbols expected there, or next, and whether the
 --                          trace could have ended there, or can here: the set before that byte has a
 --                          final state
 --   walk_of r m w           the same by the rule r
---   followOf r m w         what following the chunk w from the set m answers
---   followerOf r           the follower of the rule r: the rule, and its mask of live states
---   prepareOf r            what preparing the rule r answers: refused with 3, 4, 6 or 8, and zeros
---                          (noFollower); or its follower
---   followByOf f m w       what following by the follower f answers, in which any numbers may stand:
---                          refused with 12 or 13 by its k, or walkBy of its numbers
+--   follow_of r m w        what following the chunk w from the set m answers
+--   follower_of r          the follower of the rule r: the rule, and its mask of live states
+--   prepare_of r           what preparing the rule r answers: refused with 3, 4, 6 or 8, and zeros
+--                          (no_follower); or its follower
+--   follow_by_of f m w     what following by the follower f answers, in which any numbers may stand:
+--                          refused with 12 or 13 by its k, or walk_by of its numbers
 use Rattle.std.specs.Prelude.{ℕ, zero, suc, ◌-◌, Bool, false, cond, not, List, ◌++◌, length, take}
 use Rattle.std.proofs.Math.Option.{Option, none, some}
 use Rattle.base.specs.Answers.{answer_number}

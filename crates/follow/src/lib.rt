@@ -1,6 +1,8 @@
 // Follows a trace that comes in order, chunk by chunk, for every checked rule and at any length: the
 // caller hands the set of states on from chunk to chunk. The answer says too where the trace is lost,
 // and what could have stood there.
+#![tactic(auto)]
+
 ghost use Rattle.std.specs.Prelude.{◌≡◌, ◌<◌, ◌≤◌, [], ◌∷◌, length};
 ghost use Rattle.limits.specs.Limits.{longest_chunk};
 ghost use Rattle.marks.specs.Marks.{text_of};

@@ -1,7 +1,7 @@
 -- The state is what the calls say. Assumes nothing.
 --
---   begun-number       a rule is refused exactly as reading its file is: what was read passes the check
---   handed-more        a chunk more is handed on
+--   begun_number       a rule is refused exactly as reading its file is: what was read passes the check
+--   handed_more        a chunk more is handed on
 --   Agrees o ws s      the state s is that of the rule in the file o after the chunks ws; or no rule
 --   right              so every call is answered by what the calls before it say
 use mathlib.Core.Path.{◌≡◌, refl, sym, ap, ◌∙◌, subst}

@@ -2,9 +2,9 @@
 --
 --   fresh-is                    no rule
 --   unread, was_read            a file that reading refuses, and one that it accepts
---   begin-refused, begin-taken  a rule that is refused, and one that is taken
---   said-lost, said-yes, said-no   what a chunk that was followed is answered
---   next-lacks, next-refused, next-taken   a chunk without a rule, one refused, one followed
+--   begin_refused, begin_taken  a rule that is refused, and one that is taken
+--   said_lost, said_yes, said_no   what a chunk that was followed is answered
+--   next_lacks, next_refused, next_taken   a chunk without a rule, one refused, one followed
 use mathlib.Core.Path.{◌≡◌, sym, ap, ◌∙◌}
 use mathlib.Core.Bool.{Bool, true, false, cond}
 use mathlib.Core.List.{List}

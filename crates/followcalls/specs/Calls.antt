@@ -10,17 +10,17 @@
 --     begun            the rule was taken
 --     going e m        the trace is not lost; e says whether it is accepted so far; the symbols of the
 --                      mask m could come next
---     lostAt b m       it is lost at byte b of this chunk, where those of m could have stood
+--     lost_at b m      it is lost at byte b of this chunk, where those of m could have stood
 --     refused x        refused with the number x
 --   FollowState        a follower and a set: no rule where the follower's rule has no states
---   noneYet            no rule
---   followerIn f       the rule in the file f, read (1 to 8) and prepared
---   followedBy         what a chunk is answered, from what following it answers
---   replyOf s c        what the call c is answered on the state s; 20 is for a chunk without a rule
+--   none_yet           no rule
+--   follower_in f      the rule in the file f, read (1 to 8) and prepared
+--   followed_by        what a chunk is answered, from what following it answers
+--   reply_of s c       what the call c is answered on the state s; 20 is for a chunk without a rule
 --   next_of s c         the state that it leaves
---   followMachine      both, from no rule on
---   Outcome, callStep s c   both in one; none stands where a line is no call
---   answerMeans, tracedMeans   what each case of the code's answer says, and the code's result
+--   follow_machine     both, from no rule on
+--   Outcome, call_step s c  both in one; none stands where a line is no call
+--   answer_means, traced_means  what each case of the code's answer says, and the code's result
 use Rattle.std.specs.Prelude.{Bool, true, false, cond, List, ℕ, eqb}
 use Rattle.std.proofs.Math.Option.{Option, none, some}
 use Rattle.executions.specs.Executions.{Machine}

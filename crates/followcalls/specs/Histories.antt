@@ -1,10 +1,10 @@
 -- What the calls before say, and nothing else (a list has the LAST call first).
 --
---   ruleIn h          the file of the last accepted rule since the rule was last forgotten
+--   rule_in h         the file of the last accepted rule since the rule was last forgotten
 --   chunks_in h        the chunks that came since then, oldest first, refused ones too: `handed` and
 --                     `taken_text` of crates/follow leave those out
---   afterChunks h ws  the calls h, and then the chunks ws, oldest first
---   rightReply h c    the right reply to the call c after the calls h: by following from chunk to
+--   after_chunks h ws  the calls h, and then the chunks ws, oldest first
+--   right_reply h c   the right reply to the call c after the calls h: by following from chunk to
 --                     chunk from the rule's initial states on, where there is a rule
 --   Accepted h c      after the calls h the call c is answered with no refusal
 --   Changes c         the call may change which rule there is: it begins a trace, or forgets

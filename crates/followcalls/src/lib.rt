@@ -1,5 +1,7 @@
 // The calls of a trace follower: one rule at most is held, with the set that its trace has reached, by
 // value.
+#![tactic(auto)]
+
 ghost use Rattle.std.specs.Prelude.{◌≡◌};
 ghost use Rattle.std.proofs.Math.Option.{none, some};
 ghost use Rattle.follow.specs.Following.{lost_means, prepare_outcome};

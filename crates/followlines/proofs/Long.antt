@@ -1,7 +1,7 @@
 -- A file or a chunk that is too long is refused by its length alone, so the first of its bytes stand
 -- for all. Assumes nothing.
 --
---   step-long     two that are too long come to the same
+--   step_long     two that are too long come to the same
 --   clip          the first bytes, one more than a chunk has at most, come to what all of them do
 use mathlib.Core.Path.{◌≡◌, refl, sym, ap, ◌∙◌}
 use mathlib.Core.Bool.{Bool, true, false, cond}

@@ -1,11 +1,11 @@
 -- The ways through the functions that run a line. Assumes nothing.
 --
---   fresh-line, empty-line  an empty line
+--   fresh_line, empty_line  an empty line
 --   made                    a call, by whether it is of a rule
---   not-field, field_put    a field that says no bytes, and one that says some
+--   not_field, field_put    a field that says no bytes, and one that says some
 --   told                    what a test found
 --   inside                  a line that begins with a word has it whole
---   rule-line, next-line, other-line   a line by the word with which it begins
+--   rule_line, next_line, other_line   a line by the word with which it begins
 use mathlib.Core.Path.{◌≡◌, sym, ap, ◌∙◌}
 use mathlib.Core.Bool.{Bool, true, false, true≢false}
 use mathlib.Core.List.{List}

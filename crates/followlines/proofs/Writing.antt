@@ -1,8 +1,8 @@
 -- The text of an answer is written. Assumes nothing.
 --
---   digits-room, end-room, mask-written   a mask behind a space
---   word_room, word-written               a word before it
---   bytes-room, mask-room, lost-written   the line of a trace that is lost
+--   digits_room, end_room, mask_written   a mask behind a space
+--   word_room, word_written               a word before it
+--   bytes-room, mask_room, lost_written   the line of a trace that is lost
 --   answered                              the line of an answer, by its case
 use mathlib.Core.Path.{◌≡◌, sym, subst}
 use mathlib.Core.List.{List, [], ◌∷◌, ◌++◌}

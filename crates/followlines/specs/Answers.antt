@@ -1,11 +1,11 @@
 -- How a line of `tracefollow` is answered, in ASCII: lists of byte values.
 --
---   maskText m       a space, a mask as four upper-case hex digits, the highest bit first, a line feed
---   replyText a      the line of a reply: `accepted`, `yes MASK`, `no MASK`, `lost B MASK`, `refused N`;
+--   mask_text m      a space, a mask as four upper-case hex digits, the highest bit first, a line feed
+--   reply_text a     the line of a reply: `accepted`, `yes MASK`, `no MASK`, `lost B MASK`, `refused N`;
 --                    an empty line where the rule was forgotten
---   responseText o   the same of a line, which may be malformed
---   mostAnswer       the most bytes of an answer: `lost `, ten digits, a space, four digits, a line feed
---   lineStep s o     what a line of the meaning o comes to on the state s; a malformed one changes nothing
+--   response_text o  the same of a line, which may be malformed
+--   most_answer      the most bytes of an answer: `lost `, ten digits, a space, four digits, a line feed
+--   line_step s o    what a line of the meaning o comes to on the state s; a malformed one changes nothing
 use Rattle.std.specs.Prelude.{true, false, List, [], ◌∷◌, ◌++◌, ℕ}
 use Rattle.std.proofs.Math.Option.{Option, none, some}
 use Rattle.text.specs.Numerals.{decimal, hex}

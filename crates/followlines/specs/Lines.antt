@@ -5,7 +5,7 @@
 --   …-word        the word with which a line begins, and the space behind it
 --   call_of rule b   the call that the bytes b make: they are a rule file, or else a chunk
 --   call_by rule o   the same, from what a field says, if it says bytes
---   lineIn w      the call that the line w means; none where it is malformed
+--   line_in w     the call that the line w means; none where it is malformed
 use Rattle.std.specs.Prelude.{Bool, true, false, cond, List, [], ◌∷◌, ℕ, eqb, length, drop}
 use Rattle.std.proofs.Math.Option.{Option, none, some}
 use Rattle.lines.specs.Splitting.{begins as begins_with}

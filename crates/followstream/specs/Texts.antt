@@ -1,14 +1,14 @@
 -- A text of lines for `tracefollow`, that comes in blocks.
 --
---   followRoom          the bytes in which lines are told apart: `next ` and two hex digits for each of
+--   follow_room         the bytes in which lines are told apart: `next ` and two hex digits for each of
 --                       65,537 bytes, which are too many
---   toldAs o            the outcome of a line, with its answer as text; a malformed line ends its list
---   followList          what comes of a line in a list that goes on
---   followLines         the machine that answers lines
---   historyAfter h o    the calls h, and then a line of the meaning o; none where a malformed line
+--   told_as o           the outcome of a line, with its answer as text; a malformed line ends its list
+--   follow_list         what comes of a line in a list that goes on
+--   follow_lines        the machine that answers lines
+--   history_after h o   the calls h, and then a line of the meaning o; none where a malformed line
 --                       ended the list: no call is made until an empty line
---   rightResponse h o   the right answer to a line of the meaning o after the calls h
---   rightText h ls      the right answer to each line, after the calls h and the lines before it
+--   right_response h o  the right answer to a line of the meaning o after the calls h
+--   right_text h ls     the right answer to each line, after the calls h and the lines before it
 use Rattle.std.specs.Prelude.{List, [], ◌∷◌, ℕ, ◌+◌, ◌*◌}
 use Rattle.std.proofs.Math.Option.{Option, none, some}
 use Rattle.base.specs.Options.{is_none}

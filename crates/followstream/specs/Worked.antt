@@ -1,9 +1,9 @@
 -- A text worked by hand: rule A of document 01, then a rule that accepts the text 0 1 and no other.
 --
---   callsText      chunks before any rule, under rule A, refused ones and a refused rule between them,
+--   calls_text     chunks before any rule, under rule A, refused ones and a refused rule between them,
 --                  under the other rule until the trace is lost and past it; a malformed line, one
 --                  behind it, an empty line and a chunk: the lines stand beside it
---   callsAnswers   their answers: a refused chunk and a refused rule change nothing
+--   calls_answers  their answers: a refused chunk and a refused rule change nothing
 use Rattle.std.specs.Prelude.{List, [], ◌∷◌, ◌++◌, ℕ}
 
 abbrev pub calls_text : List ℕ

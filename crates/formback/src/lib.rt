@@ -1,4 +1,6 @@
 // The way back from a failure form to the next-set table.
+#![tactic(auto)]
+
 ghost use Rattle.std.specs.Prelude.{◌≡◌, cond, ◌+◌, ◌*◌, ◌^◌, ◌≤◌, ◌<◌, leb, ltb, get_or, replicate};
 ghost use Rattle.std.proofs.Math.Option.{none};
 ghost use Rattle.base.specs.Answers.{answer_number};

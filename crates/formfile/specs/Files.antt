@@ -1,7 +1,7 @@
 -- The failure form of the rule in a file: the file is loaded into a fresh judge, and the form of its
 -- table is made.
 --
---   formFor f   what that answers: refused with 1 to 9 as the load is, else the form
+--   form_for f  what that answers: refused with 1 to 9 as the load is, else the form
 use Rattle.std.specs.Prelude.{List, ℕ}
 use Rattle.std.proofs.Math.Option.{Option, none, some}
 use Rattle.ruleformat.specs.Reader.{rule_of}

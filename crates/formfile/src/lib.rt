@@ -1,4 +1,6 @@
 // The failure form of the rule in a file.
+#![tactic(auto)]
+
 ghost use Rattle.std.specs.Prelude.{◌≡◌};
 ghost use Rattle.formmaker.specs.Making.{made_outcome};
 ghost use Rattle.formfile.specs.Files.{form_for};

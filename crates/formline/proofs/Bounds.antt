@@ -1,7 +1,7 @@
 -- A line that says a form is no longer than its fields can be. Assumes nothing.
 --
 --   split         a line is a field, a space and what follows it
---   digits-most, words-most   how long a field can be
+--   digits_most, words_most   how long a field can be
 --   bounded       the line
 use mathlib.Core.Path.{◌≡◌, refl, sym, ap, ◌∙◌}
 use mathlib.Core.Logic.{◌⊎◌, inl, inr, ⊎_elim}

@@ -3,7 +3,7 @@
 --   alone      no space follows
 --   unsaid     the field says nothing
 --   goes_on    it says something: what is made of the rest
---   no_cells, many-sets, many-symbols, all_held   the ways out of `with_masks`
+--   no_cells, many_sets_lem, many_symbols, all_held  the ways out of `with_masks`
 use mathlib.Core.Path.{◌≡◌, refl, sym, ap, ap₂, ◌∙◌}
 use mathlib.Core.Logic.{◌⊎◌, inl, inr}
 use mathlib.Core.Bool.{Bool, true, false, cond, ◌&&◌}

@@ -2,16 +2,16 @@
 -- fields. SETS and SYMBOLS are numbers below 2 ^ 64; the others are 16-bit numbers, at most 512, 512
 -- and 8,192 of them, zeros after them. Any other line is malformed, an empty one too.
 --
---   fieldThen o rest next   a field that says o, a space, and what next makes of what follows it;
+--   field_then o rest next  a field that says o, a space, and what next makes of what follows it;
 --                           none where the field says nothing or no space follows it
---   lineIn w             the form that the line w says, if it is no malformed one: its numbers of sets
+--   line_in w            the form that the line w says, if it is no malformed one: its numbers of sets
 --                        and symbols are those of the line, however great
---   longestLine          no line that says a form is longer (specs/Claims.antt)
+--   longest_line         no line that says a form is longer (specs/Claims.antt)
 --   Held                 what the code has of a line: the form; or that one of the two numbers is too
 --                        great for a form as a value, 16 bits for sets and 8 for symbols; or that the
 --                        line is malformed; with the form beside it
 --   held_of o             that, where the line says the form o, if it says one; beside no form zeros
---   lineMeans r          what the code's result says
+--   line_means r         what the code's result says
 use Rattle.std.specs.Prelude.{cond, ◌&&◌, List, ℕ, ◌+◌, ◌*◌, ltb}
 use Rattle.std.proofs.Math.Option.{Option, none, some}
 use Rattle.limits.specs.Limits.{most_sets, table_cells, most_digits}

@@ -1,9 +1,9 @@
 -- The line of rule A's form (document 01; crates/forms has the form by hand), and the form that it
 -- says. proofs/Examples.antt proves the claim.
 --
---   lineA         `5 2 00000000000000000300 03000200000003000200 010000000200000204000002`
---   zerosAfter    the numbers l, and zeros after them up to n
---   formA         five sets and two symbols; failure sets, masks and kept cells
+--   line_A        `5 2 00000000000000000300 03000200000003000200 010000000200000204000002`
+--   zeros_after   the numbers l, and zeros after them up to n
+--   form_A        five sets and two symbols; failure sets, masks and kept cells
 --   WorkedLine    the line says the form
 use Rattle.std.specs.Prelude.{◌≡◌, List, [], ◌∷◌, ◌++◌, ℕ, ◌-◌, length, replicate}
 use Rattle.std.proofs.Math.Option.{some}

@@ -1,4 +1,6 @@
 // A failure form on a line: `SETS SYMBOLS FAILURE MASKS CELLS`.
+#![tactic(auto)]
+
 ghost use Rattle.std.specs.Prelude.{◌≡◌};
 ghost use Rattle.formmaker.specs.Making.{no_form};
 ghost use Rattle.formline.specs.Lines.{cells_in, masks_in, failure_in, symbols_in, line_in, held_of, line_means};

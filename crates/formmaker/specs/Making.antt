@@ -2,10 +2,10 @@
 -- judge that no list of calls leaves document 01 leaves the answer free: there more than 512 sets
 -- count as 512 and more than 16 symbols as 16, as everywhere, and the cells are taken as they are.
 --
---   formIn j       the form of the judge's table
+--   form_in j      the form of the judge's table
 --   Made           the outcome: the number of a refusal, if it is one, and the form
 --   made_of j       the outcome on the judge j: 20 where it has no rule, and then zeros
---   madeOutcome       what the code's result says
+--   made_outcome      what the code's result says
 use Rattle.std.specs.Prelude.{[], ◌∷◌, ℕ, min, replicate}
 use Rattle.std.proofs.Math.Option.{Option, none, some}
 use Rattle.base.specs.Answers.{answer_number}

@@ -1,4 +1,6 @@
 // Makes the failure form of a judge's next-set table.
+#![tactic(auto)]
+
 ghost use Rattle.std.specs.Prelude.{◌≡◌, ◌*◌, ◌≤◌, ◌<◌, replicate};
 ghost use Rattle.limits.specs.Limits.{most_symbols, most_sets, table_cells};
 ghost use Rattle.forms.specs.Form.{equal_cells, failure_of, keeps_from, kept_mask, packed_cells, failures, masks, form_of};

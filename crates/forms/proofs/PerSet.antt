@@ -1,7 +1,7 @@
 -- A list that has a number for each of n sets (`for_set`). Assumes nothing.
 --
---   of-set      the number of a set
---   of-no-set   0 stands for what is no set, and behind the end of the list
+--   of_set      the number of a set
+--   of_no_set   0 stands for what is no set, and behind the end of the list
 use mathlib.Core.Path.{◌≡◌, ◌∙◌}
 use Prim.Native.Nat.{ℕ, ◌≤◌, ◌<◌}
 use native.Mathlib.Omega.{arith}

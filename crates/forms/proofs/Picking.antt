@@ -2,14 +2,14 @@
 -- nothing.
 --
 --   below_suc              a number below n + 1 is n, or below n
---   many-step, many-skip   one number more that passes, or does not
---   count-on               a turn of a loop that counts them
---   many-le, many-mono, many-lt, many-same   bounds of how many pass, and equal tests
---   picked-length          as many are picked as pass
---   picked-at              what is picked by a number stands behind those before it
---   picked-before          and stays where it is as more are picked
---   picked-past            behind the last there are zeros
---   picked-each            what holds of each one that is picked
+--   many_step, many_skip   one number more that passes, or does not
+--   count_on               a turn of a loop that counts them
+--   many_le, many_mono, many_lt, many_same   bounds of how many pass, and equal tests
+--   picked_length          as many are picked as pass
+--   picked_at              what is picked by a number stands behind those before it
+--   picked_before          and stays where it is as more are picked
+--   picked_past            behind the last there are zeros
+--   picked_each            what holds of each one that is picked
 use mathlib.Core.Path.{◌≡◌, refl, sym, ap, ◌∙◌}
 use mathlib.Core.Logic.{◌⊎◌, ⊎_elim}
 use mathlib.Core.Bool.{Bool, true, false, cond}

@@ -1,14 +1,14 @@
 -- The way back from a failure form to the table (document 02, R-14), for any value of the form.
 --
 --   rank f t s      how many kept cells stand before that of set t and symbol s
---   keptCount f     how many kept cells there are
+--   kept_count f    how many kept cells there are
 --   cell_of f t s    the cell of set t and symbol s: the kept one, or the failure set's
---   backNumber f    the number with which the form is refused: 40 for each of five reasons, in any
+--   back_number f   the number with which the form is refused: 40 for each of five reasons, in any
 --                   order; none where it is accepted
 --   table_of f       the table; a cell that is not in use is 512, as in a built rule
 --   Back            the outcome: the number of a refusal, if it is one, and the table
---   backOf f        the outcome of the form f; a refusal carries zeros
---   backOutcome       what the code's result says
+--   back_of f       the outcome of the form f; a refusal carries zeros
+--   back_outcome      what the code's result says
 use Rattle.std.specs.Prelude.{Bool, cond, not, ◌&&◌, ◌||◌, List, [], ◌∷◌, ℕ, zero, suc, ◌+◌, ◌*◌, ◌/◌, ◌%◌, ◌^◌, eqb, ltb, leb, get_or, replicate}
 use Rattle.std.proofs.Math.Option.{Option, none, some}
 use Rattle.base.specs.Answers.{answer_number}

@@ -2,17 +2,17 @@
 -- the table's cells, 16 for each set, where 512 stands for the empty set.
 --
 --   cell l t s          the cell of set t and symbol s
---   howMany p n         how many numbers below n pass the test p
+--   how_many p n        how many numbers below n pass the test p
 --   picked p g n        the list of g over the numbers below n that pass the test p, in order
---   equalCells l k t u  in how many symbols the sets t and u have equal cells, empty ones too
---   failureOf l k t     the failure set: the lower-numbered set with most equal cells, the lowest on
+--   equal_cells l k t u  in how many symbols the sets t and u have equal cells, empty ones too
+--   failure_of l k t    the failure set: the lower-numbered set with most equal cells, the lowest on
 --                       ties; 0 for set 0
 --   keeps l k t s       the cell is kept: set 0 keeps all, another set those that are not equal to
 --                       its failure set's
---   keptMask l k t      the kept cells of set t as a mask, bit s for symbol s
+--   kept_mask l k t     the kept cells of set t as a mask, bit s for symbol s
 --   kept_at kept c       by these masks the cell c, of set c / 16 and symbol c % 16, is kept
---   packedCells         the kept cells, packed by set and symbol, and zeros after them
---   forSet n g t        g of the set t; 0 where there is no such set among n
+--   packed_cells        the kept cells, packed by set and symbol, and zeros after them
+--   for_set n g t       g of the set t; 0 where there is no such set among n
 --   form_of n k l        the form; zeros for what is no set of the table
 use Rattle.std.specs.Prelude.{Bool, cond, not, ◌||◌, List, [], ◌∷◌, ℕ, zero, suc, ◌+◌, ◌*◌, ◌/◌, ◌%◌, eqb, ltb, get_or}
 use Rattle.base.specs.Lists.{list_from, joined}

@@ -1,5 +1,7 @@
 // The failure form of a next-set table, the table that it stands for, and what the two conversions
 // answer.
+#![tactic(auto)]
+
 ghost use Rattle.std.specs.Prelude.{◌≡◌, ◌<◌};
 ghost use Rattle.limits.specs.Limits.{most_symbols};
 ghost use Rattle.masks.specs.Masks.{has};

@@ -1,9 +1,9 @@
 -- A text of lines for `formtable`, that comes in blocks (`linetexts`).
 --
---   answerTo w   the answer to the line w
---   formTeller   the machine that answers lines: one that is longer than any in the grammar is
+--   answer_to w  the answer to the line w
+--   form_teller  the machine that answers lines: one that is longer than any in the grammar is
 --                malformed
---   formLines    the same, as it keeps a line
+--   form_lines   the same, as it keeps a line
 use Rattle.std.specs.Prelude.{List, ℕ}
 use Rattle.answers.specs.Answers.{malformed_text}
 use Rattle.linetexts.specs.Feeding.{LineMachine}

@@ -1,4 +1,6 @@
 // A text of lines of formtable that comes in blocks, cut anywhere, and its answers.
+#![tactic(auto)]
+
 ghost use Rattle.std.specs.Prelude.{◌+◌, ◌≤◌, length};
 ghost use Rattle.text.specs.Writing.{Wrote};
 ghost use Rattle.linetexts.specs.Feeding.{finish_of};

@@ -1,7 +1,7 @@
 -- How many kept cells stand before those of a set, counted set by set or cell by cell. Assumes
 -- nothing.
 --
---   many-split  the numbers below a + b: those below a, and the rest
+--   many_split  the numbers below a + b: those below a, and the rest
 --   first-is    set by set is the rank of a set's first cell
 use mathlib.Core.Path.{◌≡◌, refl}
 use mathlib.Core.Bool.{Bool}

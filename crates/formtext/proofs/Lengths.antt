@@ -1,8 +1,8 @@
 -- How long the parts of the text are at most, and how many cells the sets keep. Assumes nothing.
 --
---   bits_most, first-most   16 cells for each set
---   number-most             5 digits
---   cells-most              64
+--   bits_most, first_most   16 cells for each set
+--   number_most             5 digits
+--   cells_most              64
 use mathlib.Core.List.{List}
 use Prim.Native.Nat.{ℕ, ◌+◌, ◌*◌, ◌≤◌, ◌<◌}
 use native.Mathlib.Omega.{arith}

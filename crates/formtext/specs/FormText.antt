@@ -1,15 +1,15 @@
 -- What `ruleform` prints, as byte values: fields with one space between them, each line ended by one
 -- line feed.
 --
---   bitsIn m          how many bits the mask m has
---   firstCell kept t  how many cells the sets below t keep: the place of set t's first kept cell among
+--   bits_in m         how many bits the mask m has
+--   first_cell kept t  how many cells the sets below t keep: the place of set t's first kept cell among
 --                     the packed ones
---   formText f        `sets`, `symbols` and `kept` with their numbers; a line for each set: its
+--   form_text f       `sets`, `symbols` and `kept` with their numbers; a line for each set: its
 --                     number, its failure set, its mask in 4 hex digits and its kept cells, - for
 --                     512
---   textFor f         the text for the rule file f: that of its form, or `refused` and the first
+--   text_for f        the text for the rule file f: that of its form, or `refused` and the first
 --                     number of 1 to 9 whose condition holds
---   mostBytes         so many bytes have room for the text of any file, which `print_form` promises
+--   most_bytes        so many bytes have room for the text of any file, which `print_form` promises
 use Rattle.std.specs.Prelude.{List, [], ◌∷◌, ◌++◌, ℕ, ◌+◌, ◌*◌, min, get_or}
 use Rattle.std.proofs.Math.Option.{Option, none, some}
 use Rattle.limits.specs.Limits.{most_symbols, most_sets}

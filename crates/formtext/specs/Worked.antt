@@ -1,6 +1,6 @@
 -- What is printed for rule A, in bytes, by hand.
 --
---   linesA   `sets 5 symbols 2 kept 6`
+--   lines_A  `sets 5 symbols 2 kept 6`
 --            `0 0 0003 1 0`
 --            `1 0 0002 2`
 --            `2 0 0000`

@@ -1,4 +1,6 @@
 // Prints a failure form into a lent buffer.
+#![tactic(auto)]
+
 ghost use Rattle.std.specs.Prelude.{◌≡◌, [], ◌∷◌, ◌++◌, ◌+◌, ◌*◌, ◌≤◌, ◌<◌, length};
 ghost use Rattle.limits.specs.Limits.{most_symbols, most_sets, table_cells};
 ghost use Rattle.base.specs.Lists.{joined};

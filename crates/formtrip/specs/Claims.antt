@@ -2,7 +2,7 @@
 -- conversion gives the same table"); proofs/Claims.antt proves it. A list of calls has the last call
 -- first.
 --
---   tableIn j    the judge's next-set table with its numbers of sets and symbols
+--   table_in j   the judge's next-set table with its numbers of sets and symbols
 use Rattle.std.specs.Prelude.{◌≡◌, ◌↔◌, List, ◌∷◌}
 use Rattle.std.proofs.Math.Option.{none, some}
 use Rattle.automaton.specs.declared.Rule.{Rule}

@@ -1,9 +1,9 @@
 -- What the code keeps of a field. Assumes nothing.
 --
---   kept-none, kept-room, kept_full   no byte; one more where there is room, and where there is none
---   told, end-nothing, ..             the field ends here
---   nothing-digit, ..                 it goes on
---   pair-room, .., to-digit, ..       what the code does with a byte more, by the way it takes
+--   kept_none, kept_room, kept_full   no byte; one more where there is room, and where there is none
+--   told, end_nothing, ..             the field ends here
+--   nothing_digit, ..                 it goes on
+--   pair_room, .., to_digit, ..       what the code does with a byte more, by the way it takes
 --   reads_on                          whatever was kept, it keeps with the byte more
 use mathlib.Core.Path.{◌≡◌, refl, sym, ap, ◌∙◌, subst}
 use mathlib.Core.Bool.{true, false}

@@ -2,10 +2,10 @@
 --
 --   Begun          what of a field has been read: nothing, the `-`, pairs of digits with the bytes
 --                  that they stand for, pairs and a digit more with its value; or no field begins so
---   isDigit c      c is a hex digit
---   goesOn b c     what has been read with the byte c more
---   begunBy b w    with the bytes w more
---   saysNow b      the bytes that the field says if it ends here
+--   is_digit c     c is a hex digit
+--   goes_on b c    what has been read with the byte c more
+--   begun_by b w   with the bytes w more
+--   says_now b     the bytes that the field says if it ends here
 use Rattle.std.specs.Prelude.{Bool, cond, List, [], ◌∷◌, ◌++◌, ℕ, ◌+◌, ◌*◌, eqb, ltb}
 use Rattle.std.proofs.Math.Option.{Option, none, some}
 use Rattle.fields.specs.Bytes.{hex_value}

@@ -1,4 +1,6 @@
 // Bytes as hex digits: a field that is read byte by byte, of any length, and one that is written.
+#![tactic(auto)]
+
 ghost use Rattle.std.specs.Prelude.{◌≡◌, ◌+◌, ◌*◌, ◌≤◌, length};
 ghost use Rattle.text.specs.Writing.{Wrote};
 ghost use Rattle.fields.specs.Bytes.{bytes_means};

@@ -1,7 +1,7 @@
 -- A call is refused with none but its own numbers, as specs/Conditions.antt says: the number of the
 -- first condition that holds is one of the list's. Assumes nothing.
 --
---   numbersIn cs   the numbers of the conditions cs
+--   numbers_in cs  the numbers of the conditions cs
 --   one_of         the number of the first that holds is one of them
 use mathlib.Core.Path.{◌≡◌, refl, sym, ◌∙◌}
 use mathlib.Core.Logic.{⊎_elim}

@@ -2,9 +2,9 @@
 -- table, delegates and M: what holds of the automaton of a rule that was read holds of the automaton
 -- in the bytes of its file. Assumes nothing.
 --
---   run-to, alike-map, delegate-map, merged-map     runs and delegates
---   leads-map, moves-map, method-map, many-map      sets, table and all of `Method`
---   run-read, delegate-read, method-read, many_read   of a file and the rule in it
+--   run_to, alike_map, delegate_map, merged_map     runs and delegates
+--   leads_map, moves_map, method_map, many_map      sets, table and all of `Method`
+--   run_read, delegate_read, method_read, many_read   of a file and the rule in it
 use mathlib.Core.Path.{◌≡◌}
 use mathlib.Core.Logic.Iff
 use mathlib.Core.Logic.{◌↔◌, inl, inr, ⊎_elim}

@@ -1,7 +1,7 @@
 -- What the reply to a verdict says, wherever in a list of calls it is asked. Assumes nothing.
 --
---   board-there, none-empty   yes or no is said only where a board is there and no place is empty
---   verdict-at                the reply to a verdict that is asked among other calls
+--   board_there_lem, none_empty  yes or no is said only where a board is there and no place is empty
+--   verdict_at                the reply to a verdict that is asked among other calls
 use mathlib.Core.Path.{◌≡◌, refl, sym, ap, ◌∙◌}
 use mathlib.Core.Logic.Iff
 use mathlib.Core.Logic.{◌↔◌, ◌⊎◌, inl, inr}

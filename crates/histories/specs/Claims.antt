@@ -2,10 +2,10 @@
 -- every list of calls. `after_any_list` of proofs/Refinement.antt ties it to the functions: what
 -- their own contracts allow is `replies_to` and `judge_after`.
 --
---   judgeAfter h        the judge that the calls h leave, from a fresh one
---   repliesTo h         the replies to them
+--   judge_after h       the judge that the calls h leave, from a fresh one
+--   replies_to h        the replies to them
 --   BuiltBy present j   the rule that is there, if there is one, is built in j; no rule is zeros
---   leastAfter last     one more than the last revision, 0 where there is none: a revision is
+--   least_after last    one more than the last revision, 0 where there is none: a revision is
 --                       greater than the last one exactly when it is at least that
 --   Invariant h j       what holds of the state j after the calls h
 --   VerdictClauses      the words of demand 3 for the verdict asked after h

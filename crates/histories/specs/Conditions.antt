@@ -2,10 +2,10 @@
 -- "Numbers caused by the input" and "by the state"), spelt out condition by condition and without
 -- the lists of crates/calls. proofs/Conditions.antt proves it.
 --
---   Accepted-exactly, Refused-exactly   the calls but the verdict, condition by condition
---   numbersOf c        the numbers that document 01 gives to the call c ("Order: open 20, 10.
+--   AcceptedExactly, RefusedExactly     the calls but the verdict, condition by condition
+--   numbers_of c       the numbers that document 01 gives to the call c ("Order: open 20, 10.
 --                      Deliver 21, .."; to an installation document 02, R-3), the verdict's too
---   No-other-number    "A number is returned when its condition holds .., never otherwise": a call
+--   NoOtherNumber      "A number is returned when its condition holds .., never otherwise": a call
 --                      is refused with none but these. proofs/NoOther.antt proves it
 use Rattle.std.specs.Prelude.{◌≡◌, ◌↔◌, ◌⊎◌, true, false, ℕ, ◌^◌, ◌≤◌, ◌<◌, length}
 use mathlib.Core.List.{List, [], ◌∷◌, Memᴰ as Member}

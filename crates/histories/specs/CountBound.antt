@@ -3,13 +3,13 @@
 -- 4,294,967,295. It stands here alone, beside the claim that nobody misses it.
 -- proofs/CountBound.antt proves that claim of every list of calls.
 --
---   sumBut f p n       the sum of f 0, .. f (n − 1) without f p
---   formerConditions   the conditions of a delivery as document 01 had them: the five, then 24 by
+--   sum_but f p n      the sum of f 0, .. f (n − 1) without f p
+--   former_conditions  the conditions of a delivery as document 01 had them: the five, then 24 by
 --                      the sum of the counts with that of the chunk. A chunk that it replaces is no
 --                      longer in the sum (document 02, R-11)
---   sumInWith, sumWith the sum of the counts at the other places with that of the chunk, by what a
+--   sum_in_with, sum_with the sum of the counts at the other places with that of the chunk, by what a
 --                      list says and by what a state holds
---   formerNumber h     the number with which they refuse a delivery after the calls h
+--   former_number h    the number with which they refuse a delivery after the calls h
 --   CountBound h       after the calls h the sum is at most 64 × 65,536 × 32, with a chunk that can
 --                      be delivered too; and the former conditions change no answer
 use Rattle.std.specs.Prelude.{◌≡◌, Bool, cond, List, [], ◌∷◌, ◌++◌, ℕ, ◌+◌, ◌≤◌, eqb, ltb, get_or}

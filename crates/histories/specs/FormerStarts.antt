@@ -3,8 +3,8 @@
 -- delegates, runs and join stand in crates/joins/specs/Former.antt; here they are those of a list of
 -- calls. proofs/FormerStarts.antt proves the claim of every list.
 --
---   formerEndAt h d p q   the end set of state q at place p, as it was held with the delegates d
---   formerYesIn h d     the yes or no that the former join gave
+--   former_end_at h d p q  the end set of state q at place p, as it was held with the delegates d
+--   former_yes_in h d   the yes or no that the former join gave
 --   SameAnswer h        after the calls h, with a board and no place empty, it is the yes or no that
 --                       the join gives, whatever list has document 01's delegates
 use Rattle.std.specs.Prelude.{◌≡◌, Bool, true, List, ℕ}

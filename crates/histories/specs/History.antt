@@ -1,35 +1,35 @@
 -- Lists of calls, and what such a list says by itself (document 01, "The board and its calls"). A
 -- history has the LAST call first. Nothing here looks at a state.
 --
---   ruleThere h, ruleIn h    the rule of the last accepted load or installation, if there is one;
+--   rule_there h, rule_in h  the rule of the last accepted load or installation, if there is one;
 --                            and it, or zeros
---   openNumber h n           the number with which an opening is refused: 20, 10
---   boardIn h                a board is there: the last accepted call among loads, installations
+--   open_number h n          the number with which an opening is refused: 20, 10
+--   board_in h               a board is there: the last accepted call among loads, installations
 --                            and openings is an opening
---   placesIn h               its places; 0 where no board is there
---   lastRevision h p         the last revision accepted at place p since the board was opened, or
+--   places_in h              its places; 0 where no board is there
+--   last_revision h p        the last revision accepted at place p since the board was opened, or
 --                            none (document 02, R-11)
 --   standing h p             the standing chunk at place p, or none
---   end_at h p q, countAt h p, length_at h p   what place p holds: the end set of state q, the count,
+--   end_at h p q, count_at h p, length_at h p  what place p holds: the end set of state q, the count,
 --                                            and the length of the chunk's text
 --   run_at r p                the states that are run at place p, by the rule r
 --   count_of r p chunk, end_of r p q chunk   the same of what stands at place p, by the rule r:
---                                          standingCount and standingEnd, of its text
---   lookedOf r p w           for how many bytes of the text of the chunk w a successor is looked up
+--                                          standing_count and standing_end, of its text
+--   looked_of r p w          for how many bytes of the text of the chunk w a successor is looked up
 --                            at place p, by the rule r (document 02, R-2)
---   notGreater v last              the revision v is not greater than the last one, if there is one
---   deliverCheck, withdrawCheck    the number with which a delivery and a withdrawal at place p are
+--   not_greater v last             the revision v is not greater than the last one, if there is one
+--   deliver_check, withdraw_check  the number with which a delivery and a withdrawal at place p are
 --                                  refused, by the places and the last revision or what stands
 --                                  at p
---   deliverNumber, withdrawNumber  they after the calls h: 21, 11, 12, 13, 22 and 21, 11, 23
---   emptiesIn h, summedIn h, bytesIn h   how many places are empty, the sum of the counts, and that
+--   deliver_number, withdraw_number  they after the calls h: 21, 11, 12, 13, 22 and 21, 11, 23
+--   empties_in h, summed_in h, bytes_in h  how many places are empty, the sum of the counts, and that
 --                                        of the lengths
---   yes_in h, verdictIn h, reportIn h     the join of the end sets says yes; the verdict; what is
+--   yes_in h, verdict_in h, report_in h   the join of the end sets says yes; the verdict; what is
 --                                        reported with it
---   textIn h                 the standing chunks without their idle marks, joined by place
---   replyBy number a         refused with the number, or a where there is none
+--   text_in h                the standing chunks without their idle marks, joined by place
+--   reply_by number a        refused with the number, or a where there is none
 --   answer_of h c             what document 01 answers to the call c after the calls h
---   answersTo h              its answers to all calls of the list
+--   answers_to h             its answers to all calls of the list
 use Rattle.std.specs.Prelude.{Bool, true, false, cond, ◌&&◌, List, [], ◌∷◌, ℕ, eqb, leb, length}
 use Rattle.std.proofs.Math.Option.{Option, none, some}
 use Rattle.base.specs.Conditions.{first_of}

@@ -6,7 +6,7 @@
 --                   q
 --   Moves a l s m   m is the set of the states to which an arc by the symbol s leads from a member
 --                   of l
---   numberedIn b m  the set m has a number in the built rule b
+--   numbered_in b m  the set m has a number in the built rule b
 --   TooMany a       more than 512 sets are reached: 513 distinct ones, none of them empty
 --   Method a b      the sets, the next-set table, the delegates and M of b are those of the
 --                   automaton a

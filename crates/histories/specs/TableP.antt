@@ -5,13 +5,13 @@
 --   Case           a rule file, what its load answers, and the result of the case
 --   calls_of c      the calls of the case: the load of the file; for a verdict also an opening, a
 --                  delivery for each chunk and the question. The last first
---   repliesOf c    what is answered to them
+--   replies_of c   what is answered to them
 --   AsTabled c rs j   what the case says of the replies rs that were given and of the judge j that
 --                  is left
 --   Tabled l c     so it is whatever the contracts of the library l allow for the calls of the
 --                  case, and they allow something
 --   table          the paper's cases
---   byHand         one more, worked by hand
+--   by_hand        one more, worked by hand
 --   cases          all of them
 use Rattle.std.specs.Prelude.{◌≡◌, List, [], ◌∷◌, ◌++◌, ℕ, zero, suc, ◌*◌, length, get_or}
 use Rattle.std.proofs.Math.Option.{some}

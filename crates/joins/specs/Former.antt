@@ -5,10 +5,10 @@
 --   FormerMerged a d m     d lists the lowest alike state of each state, also of one from which no
 --                          final state can be reached, with zeros after them, and m is how many
 --                          states are their own
---   formerRunSet d n m p   the states that a chunk was run from at place p, where m is the set of
+--   former_run_set d n m p  the states that a chunk was run from at place p, where m is the set of
 --                          initial states: at place 0 the delegates of initial states, at any other
 --                          place all starts
---   formerJoin, formerYes  C after the first p places, and yes
+--   former_join, former_yes  C after the first p places, and yes
 --   FormerEnds r d e ws    each place holds, for each state, the end set of its chunk there
 use Rattle.std.specs.Prelude.{◌≡◌, ◌↔◌, Bool, true, ℕ, zero, suc, ◌≤◌, ◌<◌, length, get_or}
 use mathlib.Core.List.{List, [], flatten}

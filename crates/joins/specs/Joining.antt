@@ -6,7 +6,7 @@
 --                           q at place p, d q the delegate of q, and m the set of initial states. A
 --                           member that has no delegate is passed over
 --   yes_of e d n m f p       yes: C has a final state, f being the set of final states
---   joinUpTo, saysYes       the same as the code does it, over arrays that may hold anything; n
+--   join_up_to, says_yes    the same as the code does it, over arrays that may hold anything; n
 --                           above 32 counts as 32
 use Rattle.std.specs.Prelude.{Bool, List, ℕ, zero, suc, min}
 use Rattle.std.proofs.Math.Option.{Option}

@@ -1,5 +1,7 @@
 // The join of the end sets that a board holds, place by place. Any value is taken: a number of
 // states above 32 counts as 32.
+#![tactic(auto)]
+
 ghost use Rattle.std.specs.Prelude.{◌≡◌, ◌≤◌, ◌<◌};
 ghost use Rattle.limits.specs.Limits.{most_states, most_places};
 ghost use Rattle.masks.specs.Masks.{union};

@@ -1,4 +1,6 @@
 // The judge: the calls over one state. A load reads a file and installs its rule.
+#![tactic(auto)]
+
 ghost use Rattle.std.specs.Prelude.{◌≡◌, ◌<◌};
 ghost use Rattle.calls.specs.Replies.{refused, report_means, install_outcome, call_outcome, deliver_outcome};
 ghost use Rattle.calls.specs.mirror.Steps.{fresh, with_board, install_of, load_of, open_of, deliver_of, withdraw_of, report_of};

@@ -2,8 +2,8 @@
 --
 --   full_at, used                 the cells of the table, and of those that are in use
 --   known                         what a filled cell leads to has a number
---   table-left, table-by          what `add` leaves is the table
---   one-whole                     with at most 512 keys that is the whole table
+--   table_left, table_by_lem      what `add` leaves is the table
+--   one_whole                     with at most 512 keys that is the whole table
 use mathlib.Core.Path.{◌≡◌, refl, sym, ap, ◌∙◌}
 use mathlib.Core.Logic.{⊎_elim}
 use mathlib.Core.Bool.{Bool, true, false, cond}

@@ -2,14 +2,14 @@
 -- of two rules. None of the three leaves a key out: the empty set and the mapping to empty sets
 -- alone have a number like any other. The loop can leave out the key 0.
 --
---   pairKey x y          the pair of the sets x and y as a key; firstSet and secondSet are its sets
---   stepBy kind ts us m s   the key that the key m leads to by the symbol s, in a rule with the
+--   pair_key x y         the pair of the sets x and y as a key; first_set and second_set are its sets
+--   step_by kind ts us m s  the key that the key m leads to by the symbol s, in a rule with the
 --                        targets ts; the second set of a pair by the targets us
 --   nothing              no key is left out
---   skipsBy omit         the key 0 is left out where omit is true
---   freeBy omit          what stands in a cell that is not in use: 512 there, else 0
---   walkIn kind omit ts us k   the walk of the loop, with k symbols
---   walkBy kind ts us k  the walk that leaves nothing out
+--   skips_by omit        the key 0 is left out where omit is true
+--   free_by omit         what stands in a cell that is not in use: 512 there, else 0
+--   walk_in kind omit ts us k  the walk of the loop, with k symbols
+--   walk_by kind ts us k  the walk that leaves nothing out
 --   step_of, walk_of       those where one table is both
 use Rattle.std.specs.Prelude.{Bool, false, cond, ◌&&◌, List, ℕ, ◌+◌, ◌*◌, ◌/◌, ◌%◌, ◌^◌, eqb}
 use Rattle.limits.specs.Limits.{most_states, empty_set}

@@ -1,19 +1,19 @@
 -- What `number_by` and `number_keys` promise of any tables of targets, any k and any first key.
 --
---   countMeans           what each case of the answer says: the number of keys, none where there
+--   count_means          what each case of the answer says: the number of keys, none where there
 --                        are more than 512
---   heldBy               how many keys a table with that answer holds
---   Table, tableAs       the answer, with the arrays beside it; and what an answer and two arrays
---   tableOutcome         of the code stand for, and its result
---   keysBy, keys_of       the keys that texts lead to from the key m, in number order
+--   held_by              how many keys a table with that answer holds
+--   Table, table_as      the answer, with the arrays beside it; and what an answer and two arrays
+--   table_outcome        of the code stand for, and its result
+--   keys_by, keys_of      the keys that texts lead to from the key m, in number order
 --   cell_of a l i s       the number of the key that key i of the keys l leads to by the symbol s;
 --                        0 where there is no such key or symbol
 --   cells_of a l          the table, 16 cells for each of the first 512 keys
---   cellsTo a l          the table up to its first cell that leads past these keys; zeros from there
+--   cells_to a l         the table up to its first cell that leads past these keys; zeros from there
 --                        on. Where there are at most 512 keys that is the whole table
---   tableFor a l         the number of the keys l, or that there are more than 512; the first 512 of
+--   table_for a l        the number of the keys l, or that there are more than 512; the first 512 of
 --                        them, and their table
---   tableBy, table_of     the table of the keys
+--   table_by, table_of    the table of the keys
 use Rattle.std.specs.Prelude.{cond, ◌&&◌, List, ℕ, ◌/◌, ◌%◌, min, ltb, length, get_or}
 use Rattle.std.proofs.Math.Option.{Option, none, some}
 use Rattle.limits.specs.Limits.{most_symbols, most_sets, table_cells}

@@ -1,5 +1,7 @@
 // Keys numbered in the order in which a search finds them, and the table of the numbers that each
 // leads to: one loop for three kinds of keys.
+#![tactic(auto)]
+
 ghost use Rattle.std.specs.Prelude.{◌≡◌, false, ℕ, ◌+◌, ◌*◌, ◌%◌, ◌^◌, ◌≤◌, ◌<◌, eqb, get_or, take};
 ghost use Rattle.base.specs.Conditions.{any_below};
 ghost use Rattle.limits.specs.Limits.{most_symbols, most_sets};

@@ -4,7 +4,7 @@
 --   Leads t w n end from r  the same of the first run, which leads: it is alive before byte `end`,
 --                          and that is the last byte or has led it to the empty set; what it looks
 --                          up is n bytes and what it looks up from there
---   in-column              a row offset is within the table from a column on
+--   in_column              a row offset is within the table from a column on
 --   eight                  eight stores, one for each lane
 use mathlib.Core.Path.{◌≡◌, refl, sym, ap, ◌∙◌}
 use mathlib.Core.List.{List, [], ◌∷◌, append-nil}

@@ -1,10 +1,10 @@
 -- The laws of tables of row offsets. Assumes nothing.
 --
---   filled-table              an array filled with row offsets is the table
---   row-table                 which is a table of row offsets
---   hop-low, hop-stays        no step leads past the empty set's row, which leads to itself
---   hop-set, hop-empty        a step from the row of a set, and from that of the empty set
---   rows-low                  where walks end there are row offsets again
+--   filled_table              an array filled with row offsets is the table
+--   row_table                 which is a table of row offsets
+--   hop_low, hop_stays        no step leads past the empty set's row, which leads to itself
+--   hop_set, hop_empty        a step from the row of a set, and from that of the empty set
+--   rows_low                  where walks end there are row offsets again
 use mathlib.Core.Path.{◌≡◌, sym, ◌∙◌}
 use mathlib.Core.Bool.{cond}
 use mathlib.Core.List.{List}

@@ -1,9 +1,9 @@
 -- Several runs over two parts of a text, one after the other. Assumes a table of row offsets.
 --
 --   rows_at          where the run k ends
---   ends-append      where they end
---   counts-append    what each of them counts
---   looked-append    for how many bytes any of them looks a successor up
+--   ends_append      where they end
+--   counts_append    what each of them counts
+--   looked_append    for how many bytes any of them looks a successor up
 use mathlib.Core.Path.{◌≡◌, sym, ap, ◌∙◌}
 use mathlib.Core.List.{List, ◌++◌}
 use Prim.Native.Nat.{ℕ, ◌+◌, ◌<◌}

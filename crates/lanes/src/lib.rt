@@ -1,5 +1,7 @@
 // Runs over a table of row offsets, eight at a time in lock step: a walk waits for its table and
 // not for the processor, so eight of them take as long as one.
+#![tactic(auto)]
+
 ghost use Rattle.std.specs.Prelude.{◌≡◌, ◌<◌, ◌≤◌, length, get_or, take, replicate};
 ghost use Rattle.lanes.specs.mirror.Offsets.{empty_row, offset_cells, lane_count, row_of, offsets_of, row_looked, rows_end, rows_looked, RowTable, Rows, Living};
 

@@ -1,6 +1,7 @@
 // The limits of rules, boards and lines of calls (document 01), and the sizes of tables and buffers
 // that follow from them: numbers and no code. specs/Limits.antt has the numbers that definitions
 // and contracts cite.
+#![tactic(auto)]
 
 // The most states of a rule: a set of states is a 32-bit mask.
 pub const STATES: usize = 32;

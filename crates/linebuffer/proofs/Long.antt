@@ -3,8 +3,8 @@
 -- file and a chunk alike. Assumes nothing.
 --
 --   Tells a b      a line of the meaning a has the outcome of a line of the meaning b
---   stray-call     the rest is not hex digits: the line is malformed
---   hex-line       the rest is hex digits, even in number: the line comes to what its first bytes
+--   stray_call     the rest is not hex digits: the line is malformed
+--   hex_line       the rest is hex digits, even in number: the line comes to what its first bytes
 --                  come to
 --   told           so 131,124 bytes tell the lines of a recorded list apart; Asking.antt those of a text
 use mathlib.Core.Path.{◌≡◌, refl, ap, ◌∙◌}

@@ -1,12 +1,12 @@
 -- What the functions make of a line is what the definitions say, and what a buffer keeps of a line
 -- stands for it. Assumes nothing.
 --
---   held-line, held-stray              what `read_line` reads
---   asked-text, found-text             the answers to `verdict` and `diagnose`
+--   held_line, held_stray              what `read_line` reads
+--   asked_text, found_text             the answers to `verdict` and `diagnose`
 --   malformed-.., put-..               the ways through `ask_location`
 --   diagnose-.., locate-..             the ways through `ask`
---   run-state, run-text                a line that was run
---   held-step                          what is kept has the outcome of the line
+--   run_state, run_text                a line that was run
+--   held_step_lem                      what is kept has the outcome of the line
 use mathlib.Core.Path.{◌≡◌, refl, sym, ap, ◌∙◌, subst}
 use mathlib.Core.Bool.{Bool, true, false}
 use mathlib.Core.List.{List}

@@ -1,11 +1,11 @@
 -- What a line of a text of calls comes to on a judge, and a line of which a buffer has the beginning.
 --
---   answerOn j q           what the question q is answered on the judge j, as text
---   toldAs o               the outcome of a line of a recorded list, with its answer as text; a
+--   answer_on j q          what the question q is answered on the judge j, as text
+--   told_as o              the outcome of a line of a recorded list, with its answer as text; a
 --                          malformed line ends its list
---   lineTold j m           the outcome of a line of the meaning m on the judge j. A question leaves the
+--   line_told j m          the outcome of a line of the meaning m on the judge j. A question leaves the
 --                          judge as it is
---   heldMeaning buffer h   the meaning of the line that is held: malformed where a byte that the
+--   held_meaning buffer h  the meaning of the line that is held: malformed where a byte that the
 --                          buffer does not have is no hex digit
 --   HeldAs buffer h r      the line that is held was read as r
 use Rattle.std.specs.Prelude.{◌≡◌, false, List, ℕ, ◌≤◌, length, take}

@@ -1,4 +1,6 @@
 // A line of a text of calls of which a buffer has the beginning: read once, and answered on a judge.
+#![tactic(auto)]
+
 ghost use Rattle.std.specs.Prelude.{◌≡◌, ◌≤◌, length};
 ghost use Rattle.std.proofs.Math.Option.{some};
 ghost use Rattle.limits.specs.Limits.{bytes_room, answer_room};

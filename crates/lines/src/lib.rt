@@ -1,4 +1,6 @@
 // Finds where the parts of a text are.
+#![tactic(auto)]
+
 ghost use Rattle.std.specs.Prelude.{◌≡◌, ◌+◌, length, drop};
 ghost use Rattle.lines.specs.Splitting.{up_to, begins};
 

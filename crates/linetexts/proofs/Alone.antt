@@ -1,7 +1,7 @@
 -- What is written to a text of lines that stand alone are their answers. Assumes nothing.
 --
---   answered, answered-lines    every text is answered right
---   line-put, stray-put         the answer to a line that is held was written
+--   answered, answered_lines    every text is answered right
+--   line_put, stray_put         the answer to a line that is held was written
 use mathlib.Core.Path.{◌≡◌, refl, ap, ◌∙◌, subst}
 use mathlib.Core.List.{List, [], ◌∷◌, ◌++◌, flatten}
 use mathlib.Core.Bool.{true, false}

@@ -2,8 +2,8 @@
 -- lines are told apart so. Assumes nothing.
 --
 --   begun            at first the empty line is kept, whatever a buffer that is large enough has in it
---   keeps-lines      what is kept of a line
---   told-longest     lines of which every one that is too long has the same outcome are told apart so
+--   keeps_lines      what is kept of a line
+--   told_longest     lines of which every one that is too long has the same outcome are told apart so
 use mathlib.Core.Path.{◌≡◌, sym, ◌∙◌}
 use mathlib.Core.List.{List, [], ◌++◌}
 use Prim.Native.Nat.{ℕ, ◌+◌, ◌≤◌, ◌<◌}

@@ -1,9 +1,9 @@
 -- For functions that answer lines, and for a program that reads and writes. Assumes nothing.
 --
 --   came                          what came of a line, from the state that it left
---   none-finished, last-finished  the end of the text
+--   none_finished, last_finished  the end of the text
 --   none_written, last_written    the same where the beginning of a line is held
---   room-prefix                   a part of a block has its length
+--   room_prefix                   a part of a block has its length
 use mathlib.Core.Path.{◌≡◌, refl, sym, ap, ◌∙◌}
 use mathlib.Core.Bool.{Bool, true, false}
 use mathlib.Core.List.{List}

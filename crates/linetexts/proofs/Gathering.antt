@@ -1,11 +1,11 @@
 -- Parts fed one after the other while there is room to answer them. Assumes nothing.
 --
---   gather-on                  a part and what is behind it
---   gather-over, gather-short  no part is left, or too little room
---   at_on, at-over             the same, from an index of the block on
+--   gather_on                  a part and what is behind it
+--   gather_over, gather_short  no part is left, or too little room
+--   at_on, at_over             the same, from an index of the block on
 --   SoFar                      what holds after some parts
---   begun, gone-on, ended      at the start, after one part more, and at the end
---   put-within                 an answer that was written behind the others is within the buffer
+--   begun, gone_on, ended      at the start, after one part more, and at the end
+--   put_within                 an answer that was written behind the others is within the buffer
 --   placed                     an answer that was written into the rest of a buffer
 use mathlib.Core.Path.{◌≡◌, refl, sym, ap, ap₂, ◌∙◌, subst}
 use mathlib.Core.Bool.{Bool, cond}

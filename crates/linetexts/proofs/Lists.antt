@@ -1,12 +1,12 @@
 -- Lists of lines that a malformed line ends. Assumes nothing.
 --
---   told-lists              the lines of lists are told apart where each list's are
---   skips-not, skips-look   what `skips` answers
---   skipped-state, skipped-text   a line that is held is skipped
---   run-held                it comes to what it does in its list
+--   told_lists              the lines of lists are told apart where each list's are
+--   skips_not, skips-look   what `skips` answers
+--   skipped_state, skipped_text_lem  a line that is held is skipped
+--   run_held                it comes to what it does in its list
 --   Agrees, Follows         what a machine's state has to do with what is known of the list
---   lists-right             a machine that answers each line of a list rightly answers texts rightly
---   ends-list               what a malformed line does
+--   lists_right             a machine that answers each line of a list rightly answers texts rightly
+--   ends_list               what a malformed line does
 use mathlib.Core.Path.{◌≡◌, refl, sym, ap, ap₂, ◌∙◌, subst}
 use mathlib.Core.Bool.{Bool, true, false, cond, not, ◌&&◌}
 use mathlib.Core.List.{List, [], ◌∷◌, ◌++◌, append-nil}

@@ -1,7 +1,7 @@
 -- The parts of a block. Assumes nothing.
 --
---   parts-there, parts_last   the first part, where a line feed follows and where none does
---   part-ended, part-on       the part at an index, by where the next line feed was found
+--   parts_there, parts_last   the first part, where a line feed follows and where none does
+--   part_ended, part_on       the part at an index, by where the next line feed was found
 --   first_part                the first part and the rest
 --   lines_split               the lines that the parts end, and those of what follows
 use mathlib.Core.Path.{◌≡◌, refl, sym, ap, ap₂, ◌∙◌, subst}

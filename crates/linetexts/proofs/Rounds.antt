@@ -3,9 +3,9 @@
 --   round_is                 a round, and the parts that it leaves
 --   forward, within          a round takes some of a block, and no more than there is
 --   rounds                   all rounds of a block
---   blocks-are               all rounds of all blocks
---   round-forward, round-on, rounds-over   for a loop over the rounds of a block
---   in-first, past_first     an index of the first n bytes
+--   blocks_are               all rounds of all blocks
+--   round_forward, round_on, rounds_over   for a loop over the rounds of a block
+--   in_first_lem, past_first  an index of the first n bytes
 use mathlib.Core.Path.{◌≡◌, refl, sym, ap, ap₂, ◌∙◌, subst}
 use mathlib.Core.List.{List, [], ◌∷◌, ◌++◌, append_assoc, flatten}
 use Prim.Native.Nat.{ℕ, zero, suc, ◌+◌, ◌-◌, ◌≤◌, ◌<◌}

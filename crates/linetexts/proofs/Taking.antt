@@ -1,6 +1,6 @@
 -- A part of a block is found, and taken. Assumes nothing.
 --
---   place-ended, place-on   a line feed follows, or none
+--   place_ended, place_on   a line feed follows, or none
 --   took                    the line that is held goes on with it
 use mathlib.Core.Path.{◌≡◌, refl, sym, ap, ◌∙◌}
 use mathlib.Core.Bool.{Bool, true, false}

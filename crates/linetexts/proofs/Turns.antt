@@ -1,9 +1,9 @@
 -- The turns of a loop that gathers answers. Assumes nothing.
 --
---   turn-forward    a part takes some of the block
---   part-on         the line goes on behind the part
---   part-answered   the part ends a line, and its answer was written behind the others
---   turn_on, turn-answered, turn-put   the same of a line whose beginning is held; the answer was
+--   turn_forward    a part takes some of the block
+--   part_on         the line goes on behind the part
+--   part_answered   the part ends a line, and its answer was written behind the others
+--   turn_on, turn_answered, turn_put   the same of a line whose beginning is held; the answer was
 --                   written into what is left of the buffer, or behind the others
 use mathlib.Core.Path.{◌≡◌, refl, sym, ap, ap₂, ◌∙◌}
 use mathlib.Core.Bool.{Bool, true, false, not}

@@ -1,13 +1,13 @@
 -- Lines that stand alone: a machine without a state answers each by itself.
 --
 --   alone answer j w      what comes of the line w, by its answer
---   answerTeller answer bad longest most   such a machine, where every line that is longer than
+--   answer_teller answer bad longest most  such a machine, where every line that is longer than
 --                         `longest` is answered `bad`: so lines are told apart by their beginnings
 --   answering ..          the same, as it keeps a line
---   lineState held line   what is left between the blocks of a text
+--   line_state held line  what is left between the blocks of a text
 --   FedLines m ..         what a function that gathers tells of such a machine: the line, the answers
 --                         at the start of their buffer, and where the next part begins
---   answersTo answer ls   the answers to lines, one after the other
+--   answers_to answer ls  the answers to lines, one after the other
 --   Answers m answer Keeps   every text is answered right by a machine that keeps lines so:
 --     whole                 what is answered to blocks, fed one after the other, and to the end
 --     written               all that is written, round by round, block by block, and at the end

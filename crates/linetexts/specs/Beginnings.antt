@@ -5,8 +5,8 @@
 --   state_of j held line   a machine's state, and what is kept of a line so
 --   Teller J            what comes of a line, what comes of one with a stray byte beyond the room in
 --                       which lines are told apart, that room, and the most bytes of an answer
---   byBeginning t       the machine that keeps lines so
---   heldStep m j line held   what comes of the line that is held
+--   by_beginning t      the machine that keeps lines so
+--   held_step m j line held  what comes of the line that is held
 --   Told t              on every state the lines are told apart by their first bytes and by what the
 --                       rest is
 --   KeepsLine room b w  the line's buffer is large enough for that, and it keeps w, the beginning of a

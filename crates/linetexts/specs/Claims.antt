@@ -1,13 +1,13 @@
 -- Every text is answered right, however it is cut into blocks, and in however many rounds a block
 -- is fed, by any machine that keeps a line that goes on; proofs/Claimed.antt proves the claims.
 --
---   linesStep m j ls   the outcome of the lines ls, one after the other, from the state j on
+--   lines_step m j ls  the outcome of the lines ls, one after the other, from the state j on
 --   KeepsLines m Keeps   `Keeps k w` says that k keeps the beginning w of a line: so does what is
 --                      kept with a piece more, and at first nothing; whether nothing is kept and
 --                      what comes of the line that is kept is what it is of the line
 --   Feeds m Keeps s w ps   feeding the parts ps to s: the lines that they end were run and answered,
 --                      and the beginning of the next is kept
---   streamOf m s blocks   the outcome of feeding the blocks and then finishing
+--   stream_of m s blocks  the outcome of feeding the blocks and then finishing
 --   Rounds m s block s' texts   the block is fed to s in rounds, each as far as its room for answers
 --                               goes: the last leaves s', and each answered its text
 --   Blocks m s blocks s' text   blocks are fed so, one after the other; `text` is all that was

@@ -11,23 +11,23 @@
 --     most              the most bytes of an answer
 --   State K J         the machine's state, and what is kept of a line
 --   Step K J          the outcome of a call: the state that it leaves, and what it answered
---   goOn m s p        the line that is kept goes on with the piece p
+--   go_on m s p       the line that is kept goes on with the piece p
 --   quiet s           nothing is answered
---   answeredBy m s o  what came of the line is answered, and the next line begins
---   answerKept m s    the line that is kept is run and answered
---   feedPart m s p    the outcome of feeding a part
---   finishOf m s      the outcome of the end of the text: a last line is answered if it is not
+--   answered_by m s o  what came of the line is answered, and the next line begins
+--   answer_kept m s   the line that is kept is run and answered
+--   feed_part m s p   the outcome of feeding a part
+--   finish_of m s     the outcome of the end of the text: a last line is answered if it is not
 --                     empty
---   feedParts m s ps  the state after feeding the parts ps
---   partsText m s ps  all that is answered to them
+--   feed_parts m s ps  the state after feeding the parts ps
+--   parts_text m s ps  all that is answered to them
 --   Gathering K J     what feeding parts came to until the room for answers ran short: the state
 --                     that is left, all that was answered, and how many bytes of the block were
 --                     taken
 --   stop s            nothing is fed
 --   onward t n g      a part of n bytes came to t, and the parts behind it to g
---   gatherParts m room s ps      feeding the parts while the room that is left has space for the
+--   gather_parts m room s ps     feeding the parts while the room that is left has space for the
 --                                longest answer
---   gatherAt m block at room s   the same of the parts of a block from an index on
+--   gather_at m block at room s  the same of the parts of a block from an index on
 --   Gathers           what the results of such a function and its buffers tell: the state, the
 --                     answers at the start of their buffer, and where the next part begins
 use Rattle.std.specs.Prelude.{◌≡◌, Bool, cond, List, [], ◌∷◌, ◌++◌, ℕ, ◌+◌, ◌-◌, ltb, length, drop}

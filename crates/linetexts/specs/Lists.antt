@@ -9,15 +9,15 @@
 --                      an answer
 --   is_line w           the line w is not empty
 --   skip s             the outcome of a line that is skipped
---   listTeller m       the machine that answers lists of lines, by what it tells lines apart
---   listLines m        the same, as it keeps a line
---   skipsHeld ended line held   the line that is held is skipped
---   textState j p line   what is left between the blocks of a text, from what the code keeps of it
---   listText           the right answers to the lines of a text: `begin` is what is known where a list
+--   list_teller m      the machine that answers lists of lines, by what it tells lines apart
+--   list_lines m       the same, as it keeps a line
+--   skips_held ended line held  the line that is held is skipped
+--   text_state j p line  what is left between the blocks of a text, from what the code keeps of it
+--   list_text          the right answers to the lines of a text: `begin` is what is known where a list
 --                      begins, `answer h l` the answer to the line l where h is known, and `next h l`
 --                      what is known after it, nothing where the line is malformed
 --   NoneEmpty ls       none of the lines is empty
---   skippedLines ls    `skipped` for each of the lines
+--   skipped_lines ls   `skipped` for each of the lines
 --   Ends               what a malformed line does, in other words
 use Rattle.std.specs.Prelude.{◌≡◌, Bool, true, false, cond, ◌&&◌, List, [], ◌∷◌, ◌++◌, ℕ}
 use Rattle.std.proofs.Math.Option.{Option, none, some}

@@ -7,11 +7,11 @@
 --   parts_in blocks     the parts of the blocks, one block after the other
 --   first_of ps         the first of them
 --   part_at block at    the part that begins at an index
---   partBytes p        the bytes of the line that the part brings
---   partEnds p         the part ends the line
---   partSize p         how many bytes of the block the part takes, with its line feed
---   linesEnded w ps    the lines that the parts end, where w is the beginning of the first
---   lineBegun w ps     the beginning of the line that goes on behind them
+--   part_bytes p       the bytes of the line that the part brings
+--   part_ends p        the part ends the line
+--   part_size p        how many bytes of the block the part takes, with its line feed
+--   lines_ended w ps   the lines that the parts end, where w is the beginning of the first
+--   line_begun w ps    the beginning of the line that goes on behind them
 --   FirstPart block p  p is the first part of the block: it takes some of it, no more than there
 --                      is, and the others are the parts of the rest
 --   PlaceOf block at r  r says where the part at an index is: its bytes, whether it ends the line, and

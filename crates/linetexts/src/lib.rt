@@ -1,5 +1,7 @@
 // Takes a block of text apart, part by part, each up to the next line feed; and says which lines are
 // skipped.
+#![tactic(auto)]
+
 ghost use Rattle.std.specs.Prelude.{◌≡◌, false, ◌<◌, length};
 ghost use Rattle.longlines.specs.Holding.{line_begin};
 ghost use Rattle.linetexts.specs.Parts.{part_at, PlaceOf, TookPart};

@@ -1,12 +1,12 @@
 -- From a set a final state can still be reached exactly where a live state is in it. Assumes a
 -- well-formed rule.
 --
---   ends-law             an accepting run starts in the set: a final state is in the set after the text
---   hope, no-hope        some text continues this one: a live state is in the set after it; none does
---   shorter, dead-on     what can be continued could before; what cannot, cannot later
+--   ends_law             an accepting run starts in the set: a final state is in the set after the text
+--   hope, no_hope        some text continues this one: a live state is in the set after it; none does
+--   shorter, dead_on     what can be continued could before; what cannot, cannot later
 --   moved                from the set after a text, or over the text too
 --   continued            from the initial states: the text can be continued to an accepted one
---   continued-before     so can a shorter one
+--   continued_before     so can a shorter one
 use mathlib.Core.Path.{◌≡◌, sym, ap, ◌∙◌, subst}
 use mathlib.Core.Logic.{◌↔◌}
 use mathlib.Core.Bool.{true, false}

@@ -2,8 +2,8 @@
 -- adds nothing is the last that is needed, and there are at most 32 that add one. Assumes a
 -- well-formed rule.
 --
---   live-of, in-live     a state of the mask is live, and each live one is in it
---   live-law             both
+--   live_of, in_live     a state of the mask is live, and each live one is in it
+--   live_law             both
 use mathlib.Core.Path.{◌≡◌, ap, ◌∙◌, subst}
 use mathlib.Core.Logic.{◌↔◌, ⊎_elim}
 use mathlib.Core.List.{List, [], ◌∷◌}

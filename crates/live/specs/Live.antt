@@ -2,7 +2,7 @@
 -- backwards from the final states. specs/Claims.antt says that these are delegates' `Live` ones.
 --
 --   leads ts m q     some arc leads from state q to a member of m
---   backTo ts m      m, with every state from which an arc leads to a member of m
+--   back_to ts m     m, with every state from which an arc leads to a member of m
 --   within ts m i    the states from which at most i arcs lead to a member of m
 --   live_of r         the states of the rule r from which a final state can be reached: a rule has at
 --                    most 32 states, so 32 arcs are enough

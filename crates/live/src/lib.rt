@@ -1,4 +1,6 @@
 // The live states of a rule: those from which a final state can be reached.
+#![tactic(auto)]
+
 ghost use Rattle.std.specs.Prelude.{◌≡◌, ◌<◌};
 ghost use Rattle.limits.specs.Limits.{most_states};
 ghost use Rattle.live.specs.Live.{leads as leadsTo, back_to, within};

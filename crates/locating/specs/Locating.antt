@@ -3,19 +3,19 @@
 -- code does. crates/losses says what it is after a list of calls.
 --
 --   Spot                     what is answered
---     refusedFor x           refused with the number x
---     stuckAfter b           nothing can follow the first b bytes, and something can follow fewer
+--     refused_for x          refused with the number x
+--     stuck_after b          nothing can follow the first b bytes, and something can follow fewer
 --     nowhere                something can follow all of them
---   locatedMeans             what each case of the code's answer says
---   someLeft ends            some end set is not empty
---   foundBy x                what the runs x over a text say: where none is left, the bytes for which
+--   located_means            what each case of the code's answer says
+--   some_left ends           some end set is not empty
+--   found_by x               what the runs x over a text say: where none is left, the bytes for which
 --                            they looked a successor up
---   textSpot .. k gap t      the same for the runs over the text t, in bytes of it, with 13 and 23
+--   text_spot .. k gap t     the same for the runs over the text t, in bytes of it, with 13 and 23
 --                            before it: gap says whether a place before is empty
 --   cut_of b                  the pruned table of the built rule b
---   spotIn b m t             what the runs over it say, from the delegates of the set m
---   inChunk w s              the same in bytes of the chunk w, idle marks counted
---   locateConditions         21, 11, 12, 13, 23
+--   spot_in b m t            what the runs over it say, from the delegates of the set m
+--   in_chunk w s             the same in bytes of the chunk w, idle marks counted
+--   locate_conditions        21, 11, 12, 13, 23
 --   spot_of j p w             what is answered on the state j for the chunk w at place p
 use Rattle.std.specs.Prelude.{Bool, cond, List, [], ◌∷◌, ℕ, min, leb, ltb, length, get_or}
 use Rattle.std.proofs.Math.Option.{Option, none, some}

@@ -1,5 +1,7 @@
 // After how many bytes of a chunk a trace is lost, where the chunk is handed over once more. Nothing
 // is changed.
+#![tactic(auto)]
+
 ghost use Rattle.std.specs.Prelude.{◌≡◌, ◌*◌, ◌≤◌, ◌<◌, min, max, eqb, length, get_or};
 ghost use Rattle.limits.specs.Limits.{most_states, most_symbols, empty_set, table_cells, most_places, longest_chunk};
 ghost use Rattle.base.specs.Conditions.{any_below};

@@ -1,11 +1,11 @@
 -- What a buffer keeps of a line that goes on. Assumes nothing.
 --
---   odd-sum                    whether a sum is odd
---   kept-none                  the empty line
+--   odd_sum                    whether a sum is odd
+--   kept_none                  the empty line
 --   same_size                  the buffer keeps its length
 --   kept_on                    a line and a piece behind it
---   fits-prefix, fits-room     the part of the piece that fits
---   holds-buffer, holds-held   what `hold` does is what the definitions say
+--   fits-prefix, fits_room     the part of the piece that fits
+--   holds_buffer, holds-held   what `hold` does is what the definitions say
 use mathlib.Core.Path.{◌≡◌, refl, sym, ap, ap₂, ◌∙◌}
 use mathlib.Core.Bool.{Bool, true, false, not, ◌&&◌}
 use mathlib.Core.List.{List, [], ◌++◌, append-nil, append_assoc}

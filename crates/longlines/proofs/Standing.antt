@@ -1,11 +1,11 @@
 -- What a buffer keeps of a line stands for the line. Assumes nothing.
 --
---   stands-within, stands-inside, stands-prefix   as much of the buffer as stands for the line is
+--   stands_within, stands_inside, stands_prefix   as much of the buffer as stands for the line is
 --                            within what is kept of it, and within the buffer
 --   seen-is                  what `look` does is what the definition says
---   meaning-on               what is made of a meaning is made of the meaning of what is held
---   by_bytes, by-stray       the meaning of what is held, by what `look` answered
---   held-means               what is kept has the meaning of the line
+--   meaning_on               what is made of a meaning is made of the meaning of what is held
+--   by_bytes, by_stray       the meaning of what is held, by what `look` answered
+--   held_means               what is kept has the meaning of the line
 use mathlib.Core.Path.{◌≡◌, refl, sym, ap, ap₂, ◌∙◌, subst}
 use mathlib.Core.Bool.{Bool, true, false, cond, ◌&&◌, and_comm}
 use mathlib.Core.List.{List}

@@ -1,10 +1,10 @@
 -- A line that goes on: what its first bytes decide, and bytes in a field whose rest is told by
 -- whether it is hex digits, even in number. Assumes nothing.
 --
---   begins-append                     the first word
---   up_more, past-append              what stands before the first c, and behind it
---   bytes-stray, bytes-odd, bytes-even, bytes-either   a field of two bytes at least
---   tail-stray, tail-bytes            the same, that goes on
+--   begins_append                     the first word
+--   up_more, past_append              what stands before the first c, and behind it
+--   bytes_stray, bytes_odd, bytes_even, bytes_either   a field of two bytes at least
+--   tail_stray, tail_bytes            the same, that goes on
 use mathlib.Core.Path.{◌≡◌, refl, ap, ◌∙◌}
 use mathlib.Core.Bool.{Bool, true, false, cond, ◌&&◌, and-true, and-false}
 use mathlib.Core.List.{List, [], ◌∷◌, ◌++◌}

@@ -2,19 +2,19 @@
 -- and any value, whether they fit each other or not. specs/Claims.antt says what it comes to
 -- where they keep a line.
 --
---   lineBegin                 what is held where a line begins: nothing
---   keptLength buffer h       how many bytes of the line the buffer has
+--   line_begin                what is held where a line begins: nothing
+--   kept_length buffer h      how many bytes of the line the buffer has
 --   taken buffer h piece      how many bytes of the piece the buffer takes
---   oddWith odd more          whether a number is odd with so many more
---   heldAfter, bufferAfter    what is held after the line went on with the piece, and the whole
+--   odd_with odd more         whether a number is odd with so many more
+--   held_after, buffer_after  what is held after the line went on with the piece, and the whole
 --                             buffer then
 --   standing odd n            of n bytes, how many stand for the line: one less where the bytes
 --                             left out are odd in number
---   seenOf buffer h           how many bytes of the buffer stand for the line that is held, and
+--   seen_of buffer h          how many bytes of the buffer stand for the line that is held, and
 --                             whether those that they leave out are hex digits
---   meaningBy f bad buffer n hex   the meaning of the first n bytes, where f says what a line means
+--   meaning_by f bad buffer n hex  the meaning of the first n bytes, where f says what a line means
 --                             and all others are hex digits; else it is `bad`
---   heldMeaning f bad buffer h     what the line that is held means so: the bytes that stand for it
+--   held_meaning f bad buffer h    what the line that is held means so: the bytes that stand for it
 --                             decide, and what the others are
 use Rattle.std.specs.Prelude.{Bool, true, false, cond, not, ◌&&◌, List, ℕ, ◌+◌, ◌-◌, ◌%◌, min, eqb, length, take, drop}
 use Rattle.text.specs.Writing.{written}

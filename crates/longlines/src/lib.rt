@@ -1,5 +1,7 @@
 // A line of any length that comes in pieces: a buffer has its beginning, a value what must be known
 // of the rest.
+#![tactic(auto)]
+
 ghost use Rattle.std.specs.Prelude.{◌≡◌, ◌&&◌, ◌≤◌, length, take};
 ghost use Rattle.fields.specs.Bytes.{all_hex};
 ghost use Rattle.longlines.specs.Holding.{line_begin, odd_with, held_after, buffer_after, standing, seen_of};

@@ -2,12 +2,12 @@
 -- something can still follow a text. That it is what specs/Losses.antt and specs/Spots.antt say of the
 -- list is `AnswerClaims`; proofs/Answers.antt proves it.
 --
---   canFollow r w         after the text w a state is reached from which the rule r can still accept
---   findingIn h           the diagnosis after the calls h: 21 without a board, else the first place that
+--   can_follow r w        after the text w a state is reached from which the rule r can still accept
+--   finding_in h          the diagnosis after the calls h: 21 without a board, else the first place that
 --                         is empty, or past whose chunk nothing can follow
---   stuckFrom follows b f   from b bytes on, of which f more are there: the first number of bytes
+--   stuck_from follows b f  from b bytes on, of which f more are there: the first number of bytes
 --                         after which nothing can follow
---   spotAt h p w          what is answered after the calls h for the chunk w at place p
+--   spot_at h p w         what is answered after the calls h for the chunk w at place p
 use Rattle.std.specs.Prelude.{◌≡◌, Bool, cond, not, List, ℕ, zero, suc, length}
 use Rattle.base.specs.Options.{is_none}
 use Rattle.masks.specs.Masks.{shares}

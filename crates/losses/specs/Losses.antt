@@ -1,7 +1,7 @@
 -- Where a trace goes wrong, by a list of calls alone. A history has the LAST call first. Nothing here
 -- looks at a state. `Continued` is of crates/live.
 --
---   textUpTo h m      the standing chunks of the first m places without their idle marks, joined
+--   text_up_to h m    the standing chunks of the first m places without their idle marks, joined
 --   FilledAt h i      a chunk stands at place i
 --   Hopeful h m       the rule of the list can still accept after the first m places
 --   Lost h p          the trace is lost at place p: the places 0 .. p are filled, nothing can

@@ -1,13 +1,13 @@
 -- After how many bytes of a chunk a trace is lost, by a list of calls alone. Idle marks count as
 -- bytes: a position is one of the caller's buffer.
 --
---   spotNumber h p w      the number with which it is refused to say: 21, 11, 12, 13, or 23 where a
+--   spot_number h p w     the number with which it is refused to say: 21, 11, 12, 13, or 23 where a
 --                         place before p is empty
---   textWith h p w i      the text of the places before p, with that of the first i bytes of the
+--   text_with h p w i     the text of the places before p, with that of the first i bytes of the
 --                         chunk w behind it
 --   StuckAfter h p w b    nothing can follow the first b bytes, and something can follow fewer
 --   Spotted h p w s       s is what the list says
---   Refused-so h p w      which number it is, condition by condition
+--   RefusedSo h p w       which number it is, condition by condition
 --   SpotClaims            what is claimed of it; proofs/Spots.antt proves it
 use Rattle.std.specs.Prelude.{◌≡◌, ◌↔◌, ◌⊎◌, true, false, List, ◌++◌, ℕ, suc, ◌≤◌, ◌<◌, eqb, length, get_or, take}
 use Rattle.std.proofs.Math.Option.{Option, none, some}

@@ -1,7 +1,7 @@
 -- The answers of making a text, each with its buffer. Assumes nothing.
 --
 --   too_few, too_many   4
---   no-seed             41
+--   no_seed             41
 --   made                the text
 use mathlib.Core.Path.{◌≡◌}
 use mathlib.Core.List.{List}

@@ -1,9 +1,9 @@
 -- A made text is filled in symbol by symbol: what is filled in, and then the text made from the
 -- value reached, is the whole text. Assumes nothing.
 --
---   filled_none, filled_more, filled-all   nothing yet, one symbol more, all of it
---   filled-less                            so much less is left
---   below-byte                             a symbol is a byte
+--   filled_none, filled_more, filled_all   nothing yet, one symbol more, all of it
+--   filled_less                            so much less is left
+--   below_byte                             a symbol is a byte
 use mathlib.Core.Path.{◌≡◌, refl, sym, ◌∙◌}
 use mathlib.Core.List.{List, [], ◌∷◌, ◌++◌, append_assoc, append-nil}
 use Prim.Native.Nat.{ℕ, suc, ◌+◌, ◌-◌, ◌%◌, ◌≤◌, ◌<◌}

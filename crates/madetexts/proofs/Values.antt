@@ -2,8 +2,8 @@
 -- value and its shift, and they differ where the value is not zero. Assumes nothing.
 --
 --   same        two numbers that differ in no bit are equal
---   own-shift   no number but zero is its own shift, whatever the width
---   left-some, right-7   a step from a value that is not zero
+--   own_shift   no number but zero is its own shift, whatever the width
+--   left_some, right_7   a step from a value that is not zero
 --   not-zero, fits   the next value is not zero, and has 64 bits
 use mathlib.Core.Path.{◌≡◌, refl, sym, ap, ap₂, ◌∙◌}
 use Prim.Native.Nat.{ℕ, zero, suc, ◌+◌, ◌-◌, ◌*◌, ◌/◌, ◌%◌, ◌^◌, ◌≤◌, ◌<◌}

@@ -2,9 +2,9 @@
 -- R-14): "The text fills the lent buffer; k outside 1 to 16 gives 4", "refuses, after 4, with 41 a
 -- zero seed". Where it refuses, the buffer is as it was.
 --
---   madeConditions k seed     the conditions, in order
---   madeNumber k seed         the number of the first that holds
---   bufferAfter k seed b      the buffer b after the call
+--   made_conditions k seed    the conditions, in order
+--   made_number k seed        the number of the first that holds
+--   buffer_after k seed b     the buffer b after the call
 --   Makes                     what `make_text` promises
 use Rattle.std.specs.Prelude.{◌≡◌, List, [], ◌∷◌, ℕ, eqb, length}
 use Rattle.std.proofs.Math.Option.{Option, none, some}

@@ -1,10 +1,10 @@
 -- Made test texts (document 02, R-14): "Marsaglia's 64-bit xorshift with shifts 13 left, 7 right, 17
 -- left, each new value modulo k being a symbol". The seed is the value before the first new one.
 --
---   leftBy n x            x and its 64 bits shifted left by n, bit by bit where they differ
---   rightBy n x           the same, shifted right
---   nextValue x           the value after x
---   madeText k x length   so many symbols, from the values after x
+--   left_by n x           x and its 64 bits shifted left by n, bit by bit where they differ
+--   right_by n x          the same, shifted right
+--   next_value x          the value after x
+--   made_text k x length  so many symbols, from the values after x
 use Rattle.std.specs.Prelude.{List, [], ◌∷◌, ℕ, zero, suc, ◌*◌, ◌/◌, ◌%◌, ◌^◌}
 use Rattle.std.specs.Int.Bits.{bit_xor}
 

@@ -1,4 +1,6 @@
 // Made test texts (document 02, R-14): a lent buffer is filled with symbols below k, from a seed.
+#![tactic(auto)]
+
 ghost use Rattle.std.specs.Prelude.{◌≡◌, ◌≤◌, length};
 ghost use Rattle.madetexts.specs.Values.{next_value, made_text};
 ghost use Rattle.madetexts.specs.Making.{Makes};

@@ -1,8 +1,8 @@
 -- A line that is longer than any in the grammar is malformed: one of its fields has too many digits,
 -- or it has too few spaces. Assumes nothing.
 --
---   long-number   a field of more than 20 bytes is no number
---   past-length   the bytes before a space, the space, and those behind it
+--   long_number   a field of more than 20 bytes is no number
+--   past_length   the bytes before a space, the space, and those behind it
 --   too_long      a line of more than 62 bytes is malformed
 use mathlib.Core.Path.{◌≡◌, refl}
 use mathlib.Core.Bool.{Bool, true, false, ◌&&◌}

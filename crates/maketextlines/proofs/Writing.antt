@@ -1,13 +1,13 @@
 -- What is written for a text that was made, or was not. Assumes nothing.
 --
---   field-none, field-some   the ways out of `put_field`
---   field-most               the most bytes of the field of a text
---   byte_left, made-line     the line feed behind the field of a text that was made: its room, and the
+--   field-none, field_some   the ways out of `put_field`
+--   field_most               the most bytes of the field of a text
+--   byte_left, made_line     the line feed behind the field of a text that was made: its room, and the
 --                            line
---   refused-line             the line of a refusal
+--   refused_line_lem         the line of a refusal
 --   length_most              the text of a line is not too long
 --   prefix                   a part of a list has its length
---   made-to, malformed-to    the ways out of `put_answer`
+--   made_to, malformed_to    the ways out of `put_answer`
 use mathlib.Core.Path.{◌≡◌, refl, sym, ap, ◌∙◌, subst}
 use mathlib.Core.List.{List, [], ◌∷◌, ◌++◌}
 use mathlib.Core.Option.{Option, none, some}

@@ -1,9 +1,9 @@
 -- How a line of `maketext` is answered: as text, in ASCII.
 --
---   mostAnswer          the most bytes of an answer: two for each of a text's, and a line feed
---   madeAnswer k seed n the answer where a text is to be made: its bytes in hex digits, `-` for none,
+--   most_answer         the most bytes of an answer: two for each of a text's, and a line feed
+--   made_answer k seed n the answer where a text is to be made: its bytes in hex digits, `-` for none,
 --                       or `refused` and the number
---   answerTo w          the answer to the line w
+--   answer_to w         the answer to the line w
 use Rattle.std.specs.Prelude.{List, [], ◌∷◌, ◌++◌, ℕ, ◌+◌, ◌*◌}
 use Rattle.std.proofs.Math.Option.{Option, none, some}
 use Rattle.limits.specs.Limits.{longest_chunk}

@@ -1,12 +1,12 @@
 -- The lines of `maketext`: `K SEED LENGTH`, three numbers with exactly one space between each two; K
 -- and SEED below 2 ^ 64, LENGTH at most 65,536. Any other line is malformed, an empty one too.
 --
---   longestLine         the most bytes of such a line
+--   longest_line        the most bytes of such a line
 --   Meaning             of a line: a text to make, from k, the seed and the length; or malformed
---   upToMost most o     the number o, if it is no greater than that
---   makesBy, lengthFields, seedFields   the meaning, from what the fields say
---   lineIn w            what the line w means
---   lineMeans r         what each case of the code's answer says
+--   up_to_most most o   the number o, if it is no greater than that
+--   makes_by, length_fields, seed_fields  the meaning, from what the fields say
+--   line_in w           what the line w means
+--   line_means r        what each case of the code's answer says
 use Rattle.std.specs.Prelude.{cond, List, ℕ, ◌+◌, ◌*◌, leb}
 use Rattle.std.proofs.Math.Option.{Option, none, some}
 use Rattle.limits.specs.Limits.{most_digits, longest_chunk}

@@ -1,8 +1,8 @@
 -- A text of lines for `maketext`, that comes in blocks (`linetexts`).
 --
---   textTeller   the machine that answers lines: one that is longer than any in the grammar is
+--   text_teller  the machine that answers lines: one that is longer than any in the grammar is
 --                malformed
---   textLines    the same, as it keeps a line
+--   text_lines   the same, as it keeps a line
 use Rattle.answers.specs.Answers.{malformed_text}
 use Rattle.linetexts.specs.Feeding.{LineMachine}
 use Rattle.linetexts.specs.Beginnings.{Beginning, Teller, by_beginning}

@@ -1,4 +1,6 @@
 // A text of lines of maketext that comes in blocks, cut anywhere, and its answers.
+#![tactic(auto)]
+
 ghost use Rattle.std.specs.Prelude.{◌+◌, ◌≤◌, length};
 ghost use Rattle.limits.specs.Limits.{longest_chunk};
 ghost use Rattle.text.specs.Writing.{Wrote};

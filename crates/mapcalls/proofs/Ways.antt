@@ -2,10 +2,10 @@
 --
 --   fresh-is              no profile
 --   beside                zeros stand beside a reply that has no mapping
---   built-reply, built-state, kept-reply, kept-state   a build that is accepted, one that is refused
---   run-lacks, run-mapped, run-refused   a chunk without a profile, one that is run, one refused
+--   built_reply_lem, built_state, kept_reply, kept_state  a build that is accepted, one that is refused
+--   run_lacks, run_mapped, run_refused   a chunk without a profile, one that is run, one refused
 --   composed              a composition
---   ask-lacks, asked-yes, asked-no    the verdict without a profile, yes and no
+--   ask_lacks, asked_yes, asked_no    the verdict without a profile, yes and no
 use mathlib.Core.Path.{◌≡◌, refl, sym, ap, ◌∙◌}
 use mathlib.Core.Bool.{Bool, true, false, not, cond}
 use mathlib.Core.List.{List}

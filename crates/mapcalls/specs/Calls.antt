@@ -15,12 +15,12 @@
 --     lacking           there is no profile
 --     refused x         refused with the number x
 --   MapState            whether there is a profile, and which; one that is not there is not looked at
---   noneYet             no profile
---   replyOf s c         what the call c is answered on the state s
+--   none_yet            no profile
+--   reply_of s c        what the call c is answered on the state s
 --   next_of s c          the state that it leaves
---   mapMachine          both, from no profile on
---   answerMeans, replyMeans   what each case of the code's answer says, with the mapping beside it
---   masksBy a           the masks that stand beside the reply a: the mapping's, else zeros (R-3)
+--   map_machine         both, from no profile on
+--   answer_means, reply_means  what each case of the code's answer says, with the mapping beside it
+--   masks_by a          the masks that stand beside the reply a: the mapping's, else zeros (R-3)
 use Rattle.std.specs.Prelude.{Bool, true, false, cond, List, ℕ, replicate}
 use Rattle.std.proofs.Math.Option.{Option, none, some}
 use Rattle.executions.specs.Executions.{Machine}

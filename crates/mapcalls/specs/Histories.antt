@@ -1,7 +1,7 @@
 -- What the calls before say, and nothing else (a list has the LAST call first).
 --
---   lastBuilt h       the file of the last accepted build since the profile was last forgotten
---   rightReply h c    the right reply to the call c after the calls h: by the profile of that file,
+--   last_built h      the file of the last accepted build since the profile was last forgotten
+--   right_reply h c   the right reply to the call c after the calls h: by the profile of that file,
 --                     where there is one
 use Rattle.std.specs.Prelude.{List, [], ◌∷◌, ℕ}
 use Rattle.std.proofs.Math.Option.{Option, none, some}

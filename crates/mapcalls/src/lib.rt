@@ -1,5 +1,7 @@
 // The calls of a mapping judge: one profile at most is held, by value. A call that does not change it
 // answers from the value at hand and returns none.
+#![tactic(auto)]
+
 ghost use Rattle.std.specs.Prelude.{◌≡◌, replicate};
 ghost use Rattle.mappings.specs.Mappings.{mapped_states};
 ghost use Rattle.mapcalls.specs.Calls.{builds, runs, composes, asks, none_yet, reply_of, next_of, reply_means, masks_by};

@@ -1,8 +1,8 @@
 -- A file or a chunk that is too long is refused by its length alone, so the first of its bytes stand
 -- for all. Assumes nothing.
 --
---   file-long, builds-long, left-long   a file that is too long
---   chunk-long, runs-long               a chunk that is
+--   file_long, builds_long, left_long   a file that is too long
+--   chunk_long, runs_long               a chunk that is
 --   clip        where two that are too long come to the same, the first bytes, one more than the
 --               most at least, come to what all of them come to
 use mathlib.Core.Path.{◌≡◌, refl, sym, ap, ◌∙◌}

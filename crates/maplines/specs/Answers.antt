@@ -1,8 +1,8 @@
 -- How a line of `mapjudge` is answered.
 --
---   answerTo s o     the answer to a line of the meaning o on the state s
---   leftBy s o       the state that the line leaves
---   isMalformed o    the line is malformed
+--   answer_to s o    the answer to a line of the meaning o on the state s
+--   left_by s o      the state that the line leaves
+--   is_malformed o   the line is malformed
 --   Says s o ..      what a function that answers the line tells: its answer was written, and whether
 --                    the line is malformed, which ends its list
 --   Replies a ..     the same of a call that was replied to

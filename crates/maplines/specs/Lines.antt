@@ -5,8 +5,8 @@
 --
 --   …-word        the word with which a line begins, and the space behind it
 --   …By           the call, from what the fields say, if they say it
---   composeFields f o   the same of a composition: a field, and what stands behind the next space
---   lineIn w      the call that the line w means; none where it is malformed
+--   compose_fields f o  the same of a composition: a field, and what stands behind the next space
+--   line_in w     the call that the line w means; none where it is malformed
 --   changes w     the line w may change which profile there is: it is empty, or begins like a build
 use Rattle.std.specs.Prelude.{Bool, true, cond, List, [], ◌∷◌, ℕ, eqb, length, drop}
 use Rattle.std.proofs.Math.Option.{Option, none, some}

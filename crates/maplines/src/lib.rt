@@ -1,4 +1,6 @@
 // Answers a line of `mapjudge`: the call that it means is made, and its answer written.
+#![tactic(auto)]
+
 ghost use Rattle.std.specs.Prelude.{◌≡◌, ◌≤◌, length, drop};
 ghost use Rattle.std.proofs.Math.Option.{none};
 ghost use Rattle.limits.specs.Limits.{bytes_room};

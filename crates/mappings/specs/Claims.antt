@@ -1,9 +1,9 @@
 -- What makes mappings fit to judge by; proofs/Claims.antt proves it.
 --
 --   Small r            a rule that passes the check and has at most eight states
---   mappingAfter r w   the mapping of the text w
+--   mapping_after r w  the mapping of the text w
 --   keys_of r           the numbers of the mappings of the rule r, in number order
---   mappingAt r i      mapping number i
+--   mapping_at r i     mapping number i
 --   many r             there are more than 512
 --   First r f w        w is the first text whose mapping is f: the shortest, and the first by
 --                      symbols among the shortest

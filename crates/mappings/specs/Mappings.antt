@@ -2,7 +2,7 @@
 -- list of eight masks of eight bits, the mask of state q at q. So a mapping has at most eight
 -- states. With fewer, n, the masks are 0 from state n on and have no bit from n on.
 --
---   mappedStates       the most states of a mapping
+--   mapped_states      the most states of a mapping
 --   Value f            f is eight masks of eight bits, whatever they are
 --   Within n f         they are those of n states
 --   image f m          every state that f maps a member of the set m to
@@ -12,7 +12,7 @@
 --                      (in any brackets they are `Bracketed` of crates/compositions)
 --   letter ts s        000's bound transition function of the symbol s, in a rule with the targets
 --                      ts: each state's targets by s
---   mappingOf ts n w   the mapping of the text w, in a rule with the targets ts and n states: for
+--   mapping_of ts n w  the mapping of the text w, in a rule with the targets ts and n states: for
 --                      each of the n states the successor of its singleton by w
 use Rattle.std.specs.Prelude.{◌≡◌, cond, List, [], ◌∷◌, ℕ, ◌%◌, ◌^◌, ◌≤◌, ◌<◌, ltb, length, get_or}
 use Rattle.base.specs.Lists.{list_from}

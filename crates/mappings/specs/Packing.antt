@@ -1,11 +1,11 @@
 -- A mapping as one number of 64 bits, so that mappings can be the keys of numbering: the mask of
 -- state q stands in the bits 8q to 8q + 7.
 --
---   maskBits            the bits of a mask
+--   mask_bits           the bits of a mask
 --   pack f, unpack x    the number of a mapping, and the mapping of a number
---   mappingWalk ts k    mappings as the keys of numbering: 000's f • δ^σ for a symbol σ; none is
+--   mapping_walk ts k   mappings as the keys of numbering: 000's f • δ^σ for a symbol σ; none is
 --                       left out
---   mappingKeys ts n k  the mappings of a rule with the targets ts, n states and k symbols, from
+--   mapping_keys ts n k  the mappings of a rule with the targets ts, n states and k symbols, from
 --                       the identity, in number order
 use Rattle.std.specs.Prelude.{false, List, [], ◌∷◌, ℕ, ◌+◌, ◌*◌, ◌/◌, ◌%◌, ◌^◌}
 use Rattle.base.specs.Lists.{list_from}

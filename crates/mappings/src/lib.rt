@@ -1,4 +1,6 @@
 // Mappings from each state to a set of states, by value, and as one number.
+#![tactic(auto)]
+
 ghost use Rattle.std.specs.Prelude.{◌≡◌, cond, ◌%◌, ◌^◌, ◌<◌, ltb};
 ghost use Rattle.masks.specs.Masks.{single};
 ghost use Rattle.automaton.specs.Rules.{target_mask};

@@ -1,6 +1,6 @@
 -- The text of a reply is written. Assumes nothing.
 --
---   mapped-room, mapped-whole   the digits of a mapping, and a line feed behind them
+--   mapped_room, mapped_whole   the digits of a mapping, and a line feed behind them
 --   …-text                  the line of a reply, by the case of the code's answer
 use mathlib.Core.Path.{◌≡◌, sym, subst}
 use mathlib.Core.List.{List, [], ◌∷◌}

@@ -1,8 +1,8 @@
 -- How `mapjudge` writes a reply, a line each, in ASCII: lists of byte values.
 --
---   replyText a      the line of a reply: `accepted COUNT`, sixteen upper-case hex digits, `yes`,
+--   reply_text a     the line of a reply: `accepted COUNT`, sixteen upper-case hex digits, `yes`,
 --                    `no`, `no profile`, `refused N`; an empty line where the profile was forgotten
---   mostAnswer       the most bytes of an answer: sixteen digits and a line feed
+--   most_answer      the most bytes of an answer: sixteen digits and a line feed
 use Rattle.std.specs.Prelude.{Bool, true, false, List, [], ◌∷◌, ◌++◌, ℕ}
 use Rattle.answers.specs.Answers.{line_of, accepted_word, refused_text}
 use Rattle.maptext.specs.MappingText.{mapping_text}

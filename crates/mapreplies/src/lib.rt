@@ -1,4 +1,6 @@
 // Writes the line of a reply of the mapping judge.
+#![tactic(auto)]
+
 ghost use Rattle.std.specs.Prelude.{◌≤◌, length};
 ghost use Rattle.text.specs.Writing.{Wrote};
 ghost use Rattle.mapcalls.specs.Calls.{built, mapped, reply_means};

@@ -1,12 +1,12 @@
 -- What the functions do with a line that is held is what the definitions say. Assumes nothing.
 --
---   changes-call, changes-stray   whether it may change the profile
---   skipped-ended                 one that is skipped leaves the list ended
---   stray-state, stray-text       one with a stray byte beyond the buffer
---   ran-state, ran-text           the state that a line leaves and whether the list has ended, and its
+--   changes_call, changes_stray   whether it may change the profile
+--   skipped_ended                 one that is skipped leaves the list ended
+--   stray_state, stray_text       one with a stray byte beyond the buffer
+--   ran_state, ran_text           the state that a line leaves and whether the list has ended, and its
 --                                 answer
---   asked-state, asked-text       the same of one that does not change the profile
---   not-changed                   what the test showed
+--   asked_state, asked_text       the same of one that does not change the profile
+--   not_changed                   what the test showed
 use mathlib.Core.Path.{◌≡◌, refl, sym, ap, ap₂, ◌∙◌, subst}
 use mathlib.Core.Bool.{Bool, true, false, not}
 use mathlib.Core.List.{List}

@@ -1,16 +1,16 @@
 -- A text of lines for `mapjudge`, that comes in blocks.
 --
---   mapRoom             the bytes in which lines are told apart: `run ` and two hex digits for each
+--   map_room            the bytes in which lines are told apart: `run ` and two hex digits for each
 --                       of 65,537 bytes, which are too many
 --   step_of s o          what comes of a line of the meaning o on the state s; a malformed line ends
 --                       its list
 --   map_list             what comes of a line in a list that goes on
---   mapLines            the machine that answers lines
---   changesHeld line h  the line that is held may change which profile there is
---   historyAfter h o    the calls h, and then a line of the meaning o; none where a malformed line
+--   map_lines           the machine that answers lines
+--   changes_held line h  the line that is held may change which profile there is
+--   history_after h o   the calls h, and then a line of the meaning o; none where a malformed line
 --                       ended the list: no call is made until an empty line
---   rightReplyTo h o    the right answer to a line of the meaning o after the calls h
---   rightText h ls      the right answer to each line, after the calls h and the lines before it
+--   right_reply_to h o  the right answer to a line of the meaning o after the calls h
+--   right_text h ls     the right answer to each line, after the calls h and the lines before it
 use Rattle.std.specs.Prelude.{Bool, false, List, [], ◌∷◌, ℕ, ◌+◌, ◌*◌}
 use Rattle.std.proofs.Math.Option.{Option, none, some}
 use Rattle.limits.specs.Limits.{bytes_room}

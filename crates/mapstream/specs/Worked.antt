@@ -1,12 +1,12 @@
 -- Two texts worked by hand: a line that was cut in two, and the calls of R-8 on rule A.
 --
---   noMapping    sixteen digits 0
---   cutText      `verdict` and the digits, `verd`, `ict`, `verdict` and the digits, an empty line,
+--   no_mapping   sixteen digits 0
+--   cut_text     `verdict` and the digits, `verd`, `ict`, `verdict` and the digits, an empty line,
 --                `verdict` and the digits
---   cutAnswers   `no profile`, `malformed`, `skipped`, `skipped`, an empty line, `no profile`
---   callsText    a build of rule A, a run of 0 and one of 1, the two composed, and the other way
+--   cut_answers  `no profile`, `malformed`, `skipped`, `skipped`, an empty line, `no profile`
+--   calls_text   a build of rule A, a run of 0 and one of 1, the two composed, and the other way
 --                about, two verdicts, a build of no bytes, and a verdict: the lines stand beside it
---   callsAnswers their answers; a refused build keeps the former profile
+--   calls_answers their answers; a refused build keeps the former profile
 use Rattle.std.specs.Prelude.{List, [], ◌∷◌, ◌++◌, ℕ, replicate}
 use Rattle.maplines.specs.Lines.{verdict_word}
 

@@ -1,4 +1,6 @@
 // Answers the lines of a text for `mapjudge` that comes in blocks, cut anywhere.
+#![tactic(auto)]
+
 ghost use Rattle.std.specs.Prelude.{◌≡◌, false, ◌+◌, ◌≤◌, length};
 ghost use Rattle.limits.specs.Limits.{bytes_room};
 ghost use Rattle.text.specs.Writing.{Wrote};

@@ -1,9 +1,9 @@
 -- A mapping as text: sixteen hex digits, two for each mask, that of state 0 first. Upper-case where
 -- it is written, of either case where it is read.
 --
---   mappingText f    the digits of the mapping f
---   parseMapping w   the mapping that the field w says, if it is exactly sixteen hex digits
---   fieldMeans       what each value of the code's answer says
+--   mapping_text f   the digits of the mapping f
+--   parse_mapping w  the mapping that the field w says, if it is exactly sixteen hex digits
+--   field_means      what each value of the code's answer says
 --   Read w r         r is the right answer for the field w: a field that says none carries zeros
 use Rattle.std.specs.Prelude.{◌≡◌, Bool, true, false, cond, List, ℕ, eqb, length, get_or, replicate}
 use Rattle.std.proofs.Math.Option.{Option, none, some}

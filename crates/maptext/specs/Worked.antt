@@ -1,7 +1,7 @@
 -- A mapping and its text, by hand: the identity of three states.
 --
---   threeStates   each of three states leads to itself
---   threeText     `0102040000000000`
+--   three_states  each of three states leads to itself
+--   three_text    `0102040000000000`
 use Rattle.std.specs.Prelude.{List, [], ◌∷◌, ℕ}
 
 abbrev pub three_states : List ℕ

@@ -1,4 +1,6 @@
 // A mapping as text: sixteen hex digits, two for each mask, that of state 0 first.
+#![tactic(auto)]
+
 ghost use Rattle.std.specs.Prelude.{◌+◌, ◌≤◌, length};
 ghost use Rattle.text.specs.Writing.{Wrote};
 ghost use Rattle.maptext.specs.MappingText.{mapping_text, Read};

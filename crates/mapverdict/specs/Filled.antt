@@ -3,7 +3,7 @@
 --
 --   Filled h r ws      a board is filled with the chunks ws, by the rule r: crates/fillings
 --   RunsAll r ws       the profile of the rule r runs each of the chunks ws
---   mappingsOf r ws    the mappings that these runs answer, in order of place
+--   mappings_of r ws   the mappings that these runs answer, in order of place
 use Rattle.std.specs.Prelude.{◌≡◌, ◌↔◌, ◌⊎◌, true, false, List, [], map, ℕ, ◌≤◌, ◌<◌, length, get_or}
 use Rattle.std.proofs.Math.Option.{none, some}
 use Rattle.limits.specs.Limits.{most_places}

@@ -1,7 +1,7 @@
 -- Idle marks (document 02, R-5): what a controller writes while no valve moves. They are skipped
 -- and are no part of the text.
 --
---   idleMark      the byte that is an idle mark
+--   idle_mark     the byte that is an idle mark
 --   marked w      some byte of the chunk w is an idle mark
 --   text_of w      the text of the chunk w: its bytes that are no idle marks, in order
 use Rattle.std.specs.Prelude.{Bool, false, cond, ◌||◌, List, [], ◌∷◌, ℕ, eqb}

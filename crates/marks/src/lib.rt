@@ -1,4 +1,6 @@
 // Idle marks: whether a chunk has any, and its text without them.
+#![tactic(auto)]
+
 ghost use Rattle.std.specs.Prelude.{◌≡◌, ◌≤◌, length};
 ghost use Rattle.text.specs.Writing.{Wrote};
 ghost use Rattle.marks.specs.Marks.{marked, text_of};

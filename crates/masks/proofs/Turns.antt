@@ -1,11 +1,11 @@
 -- A step that only adds numbers below n, taken n times, comes to a set to which it adds nothing: each
 -- turn before that adds one. Assumes nothing.
 --
---   bit-lt, rank_most      a bit is 0 or 1; no more members below n than n
---   turns-still            where a turn changes nothing, none after it does
+--   bit_lt, rank_most      a bit is 0 or 1; no more members below n than n
+--   turns_still            where a turn changes nothing, none after it does
 --   turns_more             one turn more
---   turns-whole            where a turn changes nothing, n of them
---   grows-by, in_turns     what is there stays
+--   turns_whole            where a turn changes nothing, n of them
+--   grows_by, in_turns     what is there stays
 --   still                  after n turns nothing is new
 --   settled                a turn that leaves no more members changes nothing, nor does any later one
 use mathlib.Core.Path.{◌≡◌, sym, ap, ◌∙◌, subst}

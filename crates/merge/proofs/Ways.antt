@@ -1,19 +1,19 @@
 -- Each way out of the definitions that the functions are held to: the facts that lead there, in the
 -- order in which the code finds them. Assumes nothing.
 --
---   way-both, way-either, way-other                        way_of
---   states-both, states-either, states-interleaving        statesOf
---   beside-made                                            beside
---   mask-read                                              targetMask
---   own_first, own-second                                  ownTargets
---   fits-.., in-.., row_first, row-second                  what each way asks of numbers of states
---   set_both, set-either, set-interleaving                 setOf
---   first-moves, second-moves, moved                       oneMoves
---   masks-read, targets-.., cell-state, cell-none          targetsOf, cellIn
---   merged-sizes, merged-tables, merged-made               mergedOf
---   check-first, check-second, check-36, check-37, check-none   mergeNumber
---   small-both                                             what the checks of both rules bound
---   merge-allowed, merge-accepted, merge-refused           mergeOf
+--   way_both, way_either, way_other                        way_of
+--   states_both, states_either, states_interleaving        states_of
+--   beside_made                                            beside
+--   mask_read                                              target_mask
+--   own_first, own_second                                  own_targets
+--   fits-.., in-.., row_first, row_second                  what each way asks of numbers of states
+--   set_both, set_either, set_interleaving                 set_of
+--   first_moves, second_moves, moved                       one_moves
+--   masks_read, targets-.., cell_state, cell_none          targets_of, cell_in
+--   merged_sizes, merged_tables, merged_made               merged_of
+--   check_first, check_second, check_36, check_37, check_none   merge_number
+--   small_both                                             what the checks of both rules bound
+--   merge_allowed, merge_accepted, merge_refused           merge_of
 use mathlib.Core.Path.{◌≡◌, sym, ap, ◌∙◌}
 use mathlib.Core.List.{List}
 use mathlib.Core.Option.{none, some}

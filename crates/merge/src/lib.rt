@@ -1,5 +1,7 @@
 // Two rules made one: a text that both accept, a text that either accepts, or an interleaving of
 // one from each. Any numbers may stand in the rules.
+#![tactic(auto)]
+
 ghost use Rattle.std.specs.Prelude.{◌≡◌, ◌+◌, ◌*◌, ◌≤◌, ◌<◌};
 ghost use Rattle.base.specs.Answers.{answer_number};
 ghost use Rattle.base.specs.Lists.{list_from};

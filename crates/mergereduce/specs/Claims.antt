@@ -11,7 +11,7 @@
 --                           of them
 --   Mergeable way one two   two well-formed rules with the same k, and at most 32 pairs counted of
 --                           the two as they are reduced
---   Refused-exactly way ..  which number the two have, condition by condition
+--   RefusedExactly way ..   which number the two have, condition by condition
 --   MergeReducedLaw way ..  all that is promised of merging two values
 use Rattle.std.specs.Prelude.{◌≡◌, ◌↔◌, ◌⊎◌, List, ℕ, ◌≤◌, ◌<◌, length}
 use Rattle.std.proofs.Math.Option.{none, some}

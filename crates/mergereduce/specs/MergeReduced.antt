@@ -1,14 +1,14 @@
 -- Two rules made one after both are reduced, of the pairs alone that are reached and live, and
 -- reduced again. Whatever numbers stand in them.
 --
---   reducedOrOwn r              the rule r reduced, or r itself where that is refused
---   pairTargets way one two     the targets of the pairs, or of the states of both (R-10)
---   keptPairs way one two       those that are reached and live
---   trimmedPairs way one two    the rule of these
---   mergeReducedConditions ..   the first rule's conditions of R-3, then the second's, then 36, and
+--   reduced_or_own r            the rule r reduced, or r itself where that is refused
+--   pair_targets way one two    the targets of the pairs, or of the states of both (R-10)
+--   kept_pairs way one two      those that are reached and live
+--   trimmed_pairs way one two   the rule of these
+--   merge_reduced_conditions ..  the first rule's conditions of R-3, then the second's, then 36, and
 --                               37 for more than 32 such pairs
---   mergeReducedNumber ..       the number of the first that holds, none where the two are merged
---   mergeReducedOf ..           what it answers (R-10's Merging: the number and a rule, zeros where
+--   merge_reduced_number ..     the number of the first that holds, none where the two are merged
+--   merge_reduced_of ..         what it answers (R-10's Merging: the number and a rule, zeros where
 --                               it is refused)
 use Rattle.std.specs.Prelude.{not, List, [], ◌∷◌, ◌++◌, ℕ, eqb, ltb}
 use Rattle.std.proofs.Math.Option.{Option, none, some}

@@ -5,13 +5,13 @@
 --   spread link n m           m, with every state to which a member of m is linked
 --   arcs ts q p               the test that an arc leads from q to p
 --   onward n ts m             m, with every target of an arc from a member of m
---   backTo n ts m             m, with every state from which an arc leads to a member of m
---   keptFrom n ts ..          the states that are reached from an initial state, and from which a
+--   back_to n ts m            m, with every state from which an arc leads to a member of m
+--   kept_from n ts ..         the states that are reached from an initial state, and from which a
 --                             final state is: of n states n steps find all
 --   nth n kept p              the state kept that has the new number p
---   renamedTo n kept m        the new numbers of the members of m that stay
---   trimmedTargets ..         the targets of the new state p by the symbol s
---   trimmedBy n k .. kept     the rule of the states kept, one state at least
+--   renamed_to n kept m       the new numbers of the members of m that stay
+--   trimmed_targets ..        the targets of the new state p by the symbol s
+--   trimmed_by n k .. kept    the rule of the states kept, one state at least
 use Rattle.std.specs.Prelude.{Bool, cond, ◌&&◌, ℕ, ◌/◌, ◌%◌, max, eqb, ltb}
 use Rattle.std.specs.Int.Bits.{bit_and, bit_or}
 use Rattle.base.specs.Conditions.{any_below}

@@ -1,17 +1,17 @@
 -- Rules reduced and made one by hand, and refusals at the edges: one list, and one claim over it.
 -- The rules of crates/reducing have their words there. proofs/Examples.antt proves the claim.
 --
---   throughTwo         the texts 0 and 0 0: 0 leads to 1, which is final, and to 2, and 2 to 1
---   onceIn n           the text 0, by 0 and 1 of its n states; the others have no arcs
---   onceOrTwice        the texts 0 and 0 0: 2 leads to 0 and 0 to 1, which is final; 0 and 2 are
+--   through_two        the texts 0 and 0 0: 0 leads to 1, which is final, and to 2, and 2 to 1
+--   once_in n          the text 0, by 0 and 1 of its n states; the others have no arcs
+--   once_or_twice      the texts 0 and 0 0: 2 leads to 0 and 0 to 1, which is final; 0 and 2 are
 --                      initial
---   sixTimes           the text of six 0s: a state leads to the next, and the last of 7 is final
---   fourOrMore         the texts of four 0s or more: so do its 5 states, and the last to itself
+--   six_times          the text of six 0s: a state leads to the next, and the last of 7 is final
+--   four_or_more       the texts of four 0s or more: so do its 5 states, and the last to itself
 --   crossed            the text 0 0: 0 leads to 2, and 2 to 1, which is final
---   thriceCrossed      the text 0 0 0: 0 leads to 2, 2 to 1, and 1 to 3, which is final
+--   thrice_crossed     the text 0 0 0: 0 leads to 2, 2 to 1, and 1 to 3, which is final
 --   round n k          the texts of 0s whose length is a multiple of n: n states in a ring; with k
 --                      symbols
---   mergedReduced      the list: two rules, merged by the way, come to what stands beside them
+--   merged_reduced     the list: two rules, merged by the way, come to what stands beside them
 --   Answered cases     each does
 use Rattle.std.specs.Prelude.{◌≡◌, List, [], ◌∷◌, ℕ, ◌-◌}
 use Rattle.automaton.specs.declared.Rule.{Rule}

@@ -1,5 +1,7 @@
 // Two rules made one after both are reduced, of the pairs alone that are reached and live, and
 // reduced again. Any numbers may stand in the rules.
+#![tactic(auto)]
+
 ghost use Rattle.std.specs.Prelude.{◌≡◌, ◌+◌, ◌*◌, ◌^◌, ◌≤◌, ◌<◌, max};
 ghost use Rattle.std.proofs.Math.Option.{some};
 ghost use Rattle.base.specs.Lists.{list_from};

@@ -1,9 +1,9 @@
 -- What the code keeps of a line. Assumes nothing.
 --
---   begin-both, by_way, ..      the ways out of `begin`, `letter`, `word_on` and `end_first`
---   from_start, from-word, ..   a byte more, by what was kept
---   second-put, first-put, ..   the line has ended
---   all-on, all-over            bytes, one after the other
+--   begin_both, by_way, ..      the ways out of `begin`, `letter`, `word_on` and `end_first`
+--   from_start, from_word, ..   a byte more, by what was kept
+--   second_put, first_put, ..   the line has ended
+--   all_on, all_over            bytes, one after the other
 use mathlib.Core.Path.{◌≡◌, refl, sym, ap, ◌∙◌, subst}
 use mathlib.Core.Bool.{true, cond}
 use mathlib.Core.List.{List, [], ◌∷◌}

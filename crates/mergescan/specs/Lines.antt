@@ -3,9 +3,9 @@
 --   Seen             what of a line has been read: nothing; a part of a word, with the
 --                    byte that is to come and those behind it; the word and a part of the first field; the bytes
 --                    that this field says and a part of the second; or no line begins so
---   seenWith s c     what has been read with the byte c more
---   seenBy s w       with the bytes w more
---   meansNow s       what the line means if it ends here
+--   seen_with s c    what has been read with the byte c more
+--   seen_by s w      with the bytes w more
+--   means_now s      what the line means if it ends here
 use Rattle.std.specs.Prelude.{cond, List, [], ◌∷◌, ℕ, eqb, drop}
 use Rattle.std.proofs.Math.Option.{Option, none, some}
 use Rattle.hexfields.specs.Fields.{Begun, nothing, goes_on, says_now}

@@ -1,16 +1,16 @@
 -- What the code keeps of a line, in a value and two buffers: of each file, as many bytes as its
 -- buffer has room for, at its start.
 --
---   beginOf, wordAfter, secondAfter   what the code makes of the first byte of a line, of a byte
+--   begin_of, word_after, second_after  what the code makes of the first byte of a line, of a byte
 --                            more of the word, and of the space behind the first field
---   Scanned, scanOf s c      a byte more, of any value and any buffers: what of the line has been
+--   Scanned, scan_of s c     a byte more, of any value and any buffers: what of the line has been
 --                            read then, and the buffers
---   scanAll s w              the bytes w more
---   isStart scan             nothing of a line has been read
+--   scan_all s w             the bytes w more
+--   is_start scan            nothing of a line has been read
 --   KeepsLine s scan one two the value and the buffers keep what was read
 --   ScansOn one two ..       whatever they kept, with the byte c more they keep it; the buffers
 --                            keep their lengths
---   heldMeaning scan one two what a line means that ends here: of any value and any buffers, whether
+--   held_meaning scan one two what a line means that ends here: of any value and any buffers, whether
 --                            they fit each other or not
 use Rattle.std.specs.Prelude.{◌≡◌, Bool, true, false, cond, List, [], ◌∷◌, ℕ, ◌+◌, eqb, ltb, length, get_or, take, drop}
 use Rattle.std.proofs.Math.Option.{Option, none, some}

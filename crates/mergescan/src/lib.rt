@@ -1,4 +1,6 @@
 // A line of rulemerge that is read byte by byte, of any length, and its answer.
+#![tactic(auto)]
+
 ghost use Rattle.std.specs.Prelude.{◌≡◌, ◌+◌, ◌≤◌, length, get_or, take};
 ghost use Rattle.text.specs.Writing.{Wrote};
 ghost use Rattle.mergetext.specs.Lines.{word_of, verb_word};

@@ -2,9 +2,9 @@
 -- length, so no beginning tells it: it is read byte by byte, and of each file as much is kept as tells
 -- one that is too long (`mergescan`).
 --
---   answerTo w         the answer to the line w
---   mergeLines         the machine that answers lines
---   mergeState ..      what is left between the blocks of a text
+--   answer_to w        the answer to the line w
+--   merge_lines        the machine that answers lines
+--   merge_state ..     what is left between the blocks of a text
 --   KeepsFiles s w     s keeps the line that begins with w, and its buffers can tell a file that is
 --                      too long
 use Rattle.std.specs.Prelude.{List, ℕ, ◌<◌, length}

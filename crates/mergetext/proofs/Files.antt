@@ -1,10 +1,10 @@
 -- Two rule files merged: the number, and the file of the result. Assumes nothing.
 --
---   files-law            the number: the first file's, else the second's, else that of the two rules
+--   files_law            the number: the first file's, else the second's, else that of the two rules
 --   both-read            where there is none both files are accepted, and their rules can be merged
---   result-read          the result is a file that reading accepts
+--   result_read          the result is a file that reading accepts
 --   language             the texts that it accepts
---   merged-fits          the most bytes of an answer
+--   merged_fits          the most bytes of an answer
 use mathlib.Core.Path.{◌≡◌, refl, sym, ap, ◌∙◌, subst}
 use mathlib.Core.Logic.{◌↔◌, inl, inr, ⊎_elim}
 use mathlib.Core.List.{List, [], ◌∷◌, ◌++◌}

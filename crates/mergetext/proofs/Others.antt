@@ -1,18 +1,18 @@
 -- Two rule files compared, and one reduced: what they are answered, and each way through the functions.
 -- Assumes nothing.
 --
---   compared-first, compared-second, compared-rules   two files compared
---   apart_by, same_by, refused-by, number_by          each answer comes from its comparison or number
+--   compared_first, compared_second, compared_rules   two files compared
+--   apart_by, same_by, refused_by_lem, number_by      each answer comes from its comparison or number
 --                                                     alone
---   compared-apart, compared_same, compared-refused   so, of two files
---   reduced-first, reduced-rule, reduced-read         a file reduced
---   reduced-accepted, reduced-refused                 by the number
+--   compared_apart, compared_same, compared_refused   so, of two files
+--   reduced_first, reduced_rule, reduced_read         a file reduced
+--   reduced_accepted, reduced_refused                 by the number
 --   fits                                              the most bytes of an answer
---   end-room, text-written                            the line of a text
---   text-within, text-prefix, text-few                the text of a comparison
---   apart-text, same_text, refused-text               its line
+--   end_room, text_written                            the line of a text
+--   text_within, text_prefix, text_few                the text of a comparison
+--   apart_text, same_text, refused_text_lem           its line
 --   told-compared-.., told-reduced-..                 what is written for two files, and for one
---   by-pair, by-alone                                 and for a word
+--   by_pair, by_alone                                 and for a word
 use mathlib.Core.Path.{◌≡◌, refl, sym, ap, ap₂, ◌∙◌, subst}
 use mathlib.Core.Logic.{◌↔◌}
 use mathlib.Core.List.{List, [], ◌∷◌, ◌++◌}

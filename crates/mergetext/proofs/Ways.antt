@@ -1,10 +1,10 @@
 -- What the functions' proofs cite: the file that was written, and each way through two files.
 -- Assumes nothing.
 --
---   length_most, room-left, file-line    a file that was written, and its line
---   merged-passes                        the rule that merging left passes its check
+--   length_most, room_left, file_line    a file that was written, and its line
+--   merged_passes                        the rule that merging left passes its check
 --   number_in                            the number with which reading refuses a file
---   told-first, told-second, ..          what is written for two files
+--   told_first, told_second, ..          what is written for two files
 use mathlib.Core.Path.{◌≡◌, refl, sym, ap, ap₂, ◌∙◌, subst}
 use mathlib.Core.List.{List, [], ◌∷◌, ◌++◌}
 use mathlib.Core.Option.{Option, none, some}

@@ -1,19 +1,19 @@
 -- How a line of `rulemerge` is answered. The first file is read, then the second, if there is one,
 -- then the rules are merged, compared or reduced.
 --
---   filesConditions way f g  the conditions: the first file's, the second's, then 36 and 37
---   filesNumber way f g      the number of the first that holds
---   resultFile way f g       the file of the two rules made one
+--   files_conditions way f g  the conditions: the first file's, the second's, then 36 and 37
+--   files_number way f g     the number of the first that holds
+--   result_file way f g      the file of the two rules made one
 --   Response                 what a line is answered: a refusal, a file, a rule with a text that it
 --                            alone accepts, that the two accept the same, or that it is malformed
---   mergedFiles way f g      what merging two files is answered
---   comparedFiles f g        what comparing them is
---   reducedFile f            what reducing a file is
---   responseIn m             what a line that means m is answered
---   apartWord which          `apart first `, `apart second `
---   responseText s           the whole line: `refused` and the number, the file in hex digits, which
+--   merged_files way f g     what merging two files is answered
+--   compared_files f g       what comparing them is
+--   reduced_file f           what reducing a file is
+--   response_in m            what a line that means m is answered
+--   apart_word which         `apart first `, `apart second `
+--   response_text s          the whole line: `refused` and the number, the file in hex digits, which
 --                            rule and the text as a field, `same`, or `malformed`
---   mostAnswer               the most bytes of an answer: two for each of a file's, and a line feed
+--   most_answer              the most bytes of an answer: two for each of a file's, and a line feed
 use Rattle.std.specs.Prelude.{List, [], ◌∷◌, ◌++◌, ℕ, ◌+◌, ◌*◌}
 use Rattle.std.proofs.Math.Option.{Option, none, some}
 use Rattle.base.specs.Conditions.{Condition, first_of}

@@ -3,14 +3,14 @@
 -- line is malformed, an empty one too.
 --
 --   word_of way     the word of the way, with the space behind it
---   verbWord v     the word of a line: of a way, `compare` or `reduce`
+--   verb_word v    the word of a line: of a way, `compare` or `reduce`
 --   Meaning        of a line: two files to merge by a way, or to compare, a file to reduce, or
 --                  malformed
---   pairBy v f g   the meaning of the word with two files; of `reduce` there is none
---   aloneBy v f    the meaning of the word with one file; only of `reduce` there is one
---   fieldsIn v w   the meaning of a line with the word and w behind it: a field up to the next
+--   pair_by v f g  the meaning of the word with two files; of `reduce` there is none
+--   alone_by v f   the meaning of the word with one file; only of `reduce` there is one
+--   fields_in v w  the meaning of a line with the word and w behind it: a field up to the next
 --                  space, and all that follows, if there is a space, as another
---   lineIn w       what the line w means
+--   line_in w      what the line w means
 use Rattle.std.specs.Prelude.{cond, List, [], ◌∷◌, ℕ, length, drop}
 use Rattle.std.proofs.Math.Option.{Option, none, some}
 use Rattle.lines.specs.Splitting.{begins, up_to, past}

@@ -1,8 +1,8 @@
 -- A line for each word, in bytes, and what it means; an answer of each kind, in bytes.
 -- proofs/Examples.antt proves the claims.
 --
---   bothLine, eitherLine, interleavingLine   the files 00 and 01, in each way
---   compareLine, reduceLine                  the same files compared; the file 00 reduced
+--   both_line, either_line, interleaving_line  the files 00 and 01, in each way
+--   compare_line, reduce_line                the same files compared; the file 00 reduced
 --   WorkedLines                              each line means its word, and the files in this order
 --   Written                                  each kind of answer once
 use Rattle.std.specs.Prelude.{◌≡◌, List, [], ◌∷◌, ℕ}

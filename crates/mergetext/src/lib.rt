@@ -1,4 +1,6 @@
 // The text of rulemerge: two rule files, merged or compared, or one, reduced, and the line that answers.
+#![tactic(auto)]
+
 ghost use Rattle.std.specs.Prelude.{◌≡◌, [], ◌∷◌, ◌++◌, ◌+◌, ◌≤◌, length};
 ghost use Rattle.std.proofs.Math.Option.{none};
 ghost use Rattle.text.specs.Writing.{Wrote};

@@ -1,8 +1,8 @@
 -- Which number two rules have. Assumes nothing.
 --
 --   last k1 k2 n    36 or 37, from the numbers of symbols and of states in the result
---   number-law      the number: the first rule's, else the second's, else 36 or 37
---   taken-exactly, of-a-rule, exactly-36, exactly-37, known
+--   number_law      the number: the first rule's, else the second's, else 36 or 37
+--   taken_exactly, of_a_rule, exactly_36, exactly_37, known
 --                   number by number, of any number that is so found
 use mathlib.Core.Path.{◌≡◌, sym, ap, ◌∙◌}
 use mathlib.Core.Logic.{◌↔◌, ◌⊎◌, inl, inr, ⊎_elim}

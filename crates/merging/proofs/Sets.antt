@@ -1,11 +1,11 @@
 -- The sets of states of the result: the members of a shifted mask, of the pairs of two masks, and
 -- of the initial and final states; each is a set of states. Assumes nothing.
 --
---   shift-law               the members of a shifted mask
---   pairs-law               the one law of pairs, from which all else on pairs follows
---   beside-law, set-law     the members of two sets of states beside each other, and by each way
+--   shift_law               the members of a shifted mask
+--   pairs_law               the one law of pairs, from which all else on pairs follows
+--   beside_law, set_law     the members of two sets of states beside each other, and by each way
 --   set_below               a set of the result's states
---   some-state              the result has a state
+--   some_state              the result has a state
 use mathlib.Core.Path.{◌≡◌, sym, ap, ◌∙◌, subst}
 use mathlib.Core.Logic.{◌↔◌, inl, inr, ⊎_elim}
 use Prim.Native.Nat.{ℕ, suc, ◌+◌, ◌-◌, ◌*◌, ◌/◌, ◌%◌, ◌^◌, ◌<◌, ◌≤◌}

@@ -1,7 +1,7 @@
 -- The arcs of the result, from the masks in its table: they are those of the two automata made one.
 -- Assumes two well-formed rules with the same k, and that the result has at most 32 states.
 --
---   to-mask, of_mask   an arc stands in the table, and what stands in it is an arc
+--   to_mask, of_mask   an arc stands in the table, and what stands in it is an arc
 use mathlib.Core.Path.{◌≡◌, refl, subst}
 use mathlib.Core.Logic.{◌↔◌, inl, inr, ⊎_elim}
 use mathlib.Core.Bool.{cond}

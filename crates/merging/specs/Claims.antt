@@ -3,7 +3,7 @@
 --
 --   Mergeable way one two     two well-formed rules with the same k, and at most 32 states in the
 --                             result
---   Refused-exactly way ..    which number the two have, condition by condition
+--   RefusedExactly way ..     which number the two have, condition by condition
 --   MergeLaw way one two      all that is promised of merging the two, in one place: which number,
 --                             which value, what it accepts
 use Rattle.std.specs.Prelude.{◌≡◌, ◌↔◌, ◌⊎◌, cond, List, ℕ, ◌+◌, ◌*◌, ◌^◌, ◌≤◌, ◌<◌, ltb, length}

@@ -1,7 +1,7 @@
 -- The three ways to make one rule of two (document 02, R-10), on automata: the automaton of each
 -- way, and the texts that it is to accept.
 --
---   mergedBy way a b   the automaton: pairs that move together, the states of both, or pairs of
+--   merged_by way a b  the automaton: pairs that move together, the states of both, or pairs of
 --                      which one member moves alone
 --   Merges way a b w   the text w is one that both accept, one that either accepts, or an
 --                      interleaving of one from each

@@ -1,13 +1,13 @@
 -- Two rules made one, as a value (document 02, R-10). The first has n1 states and the table ts, the
 -- second n2 and us.
 --
---   statesOf way n1 n2        the number of states of the result
+--   states_of way n1 n2       the number of states of the result
 --   pairs m1 m2 n2            the pairs of a member of m1 and one of m2, which is below n2
 --   beside m1 m2 n1           the members of m1, which are below n1, and those of m2 after them
---   setOf way n1 n2 m1 m2     the initial or final states of the result, from those of the rules
---   targetsOf way .. q s      the targets of the result's state q by the symbol s
---   cellIn way .. cell        a cell of the result's table, 0 for what is no state of it
---   mergedOf way one two      the result
+--   set_of way n1 n2 m1 m2    the initial or final states of the result, from those of the rules
+--   targets_of way .. q s     the targets of the result's state q by the symbol s
+--   cell_in way .. cell       a cell of the result's table, 0 for what is no state of it
+--   merged_of way one two     the result
 use Rattle.std.specs.Prelude.{cond, List, ℕ, ◌+◌, ◌-◌, ◌*◌, ◌/◌, ◌%◌, ◌^◌, ltb}
 use Rattle.std.specs.Int.Bits.{bit_or}
 use Rattle.base.specs.Lists.{list_from}

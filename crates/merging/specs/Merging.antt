@@ -2,13 +2,13 @@
 --
 --   way_of number                the way that C names by the number: 0 both, 1 either, any other
 --                               interleaving
---   mergeConditions way ..      the first rule's conditions of R-3, then the second's, then 36 and
+--   merge_conditions way ..     the first rule's conditions of R-3, then the second's, then 36 and
 --                               37
---   mergeNumber way one two     the number of the first that holds, none where the two are merged
+--   merge_number way one two    the number of the first that holds, none where the two are merged
 --   Merging                     what merging answers: the number with which the two are refused, or
 --                               none; and a rule
---   mergeOutcome                what the code's result stands for
---   mergeOf way one two         what merging the two answers
+--   merge_outcome               what the code's result stands for
+--   merge_of way one two        what merging the two answers
 use Rattle.std.specs.Prelude.{not, cond, List, [], ◌∷◌, ◌++◌, ℕ, eqb, ltb}
 use Rattle.std.proofs.Math.Option.{Option, none, some}
 use Rattle.base.specs.Answers.{answer_number}

@@ -3,10 +3,10 @@
 --
 --   table free masks    a table for symbols 0 and 1: the masks of state 0 by both, of state 1, ..;
 --                       `free` states at least have none
---   ruleE               the texts with an even number of 0s: states 0 (initial, final) and 1; 0
+--   rule_E              the texts with an even number of 0s: states 0 (initial, final) and 1; 0
 --                       leads from each to the other, 1 to itself
---   ruleA               rule A of document 01, the texts that end in 0 1 (crates/rulecheck)
---   noArcs n k          a rule without arcs
+--   rule_A              rule A of document 01, the texts that end in 0 1 (crates/rulecheck)
+--   no_arcs n k         a rule without arcs
 --   case way r s m      r and s, merged by the way, come to m
 --   merges              the list
 --   Answered cases      each comes to what stands beside it

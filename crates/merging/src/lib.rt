@@ -1,5 +1,7 @@
 // Two rules made one: the ways, and what merging answers. The merged rule, the conditions and what
 // it accepts are defined in specs/; crates/merge has the function.
+#![tactic(auto)]
+
 use automaton::Rule;
 use base::Answer;
 

@@ -1,10 +1,10 @@
 -- The laws of a key's turn, and of the step from a key, over the array of the keys: one lemma for
 -- each way out of a search, of a turn and of a step, and what their answers tell. Assumes nothing.
 --
---   limited-.., whole_of, over-of   an answer and the limit of 512 keys
+--   limited-.., whole_of, over_of   an answer and the limit of 512 keys
 --   cells-..                        the keys as an array
---   keys-long, count-is             how long the array is, and the list of its first cells
---   read-back                       the keys are read off the array again
+--   keys_long, count-is             how long the array is, and the list of its first cells
+--   read_back                       the keys are read off the array again
 --   found-..                        a search among the first cells
 --   entered-..                      a key's turn
 --   stepped-..                      a key is expanded by a symbol

@@ -2,9 +2,9 @@
 --
 --   ..-begins                 each part only appends to the list of keys
 --   symbols-.., keys-..       its loops unroll by one turn
---   close-keeps, upTo-keeps   what each turn of a key keeps holds of all the keys
+--   close_keeps, up_to_keeps  what each turn of a key keeps holds of all the keys
 --   settled                   the keys of the seeds before the last
---   upTo-covers, upTo-seed    what one of the first 512 keys leads to has a number, where the seeds
+--   up_to_covers, up_to_seed  what one of the first 512 keys leads to has a number, where the seeds
 --                             before the last have at most 512 keys; and so has each seed, if it is
 --                             not left out
 use mathlib.Core.Path.{◌≡◌, refl, sym, ◌∙◌, subst}

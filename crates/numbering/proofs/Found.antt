@@ -7,7 +7,7 @@
 --
 --   Prior p t i s   the turn of key p and symbol t comes before that of key i and symbol s
 --   Found l j q w   key j of the list l was found from seed q over the text w
---   upTo-found      where the seeds before the last have at most 512 keys, each key was found
+--   up_to_found     where the seeds before the last have at most 512 keys, each key was found
 use mathlib.Core.Path.{◌≡◌, refl, sym, ap, ◌∙◌, subst}
 use mathlib.Core.Logic.{◌⊎◌, inl, inr, ⊎_elim}
 use mathlib.Core.Bool.{false}

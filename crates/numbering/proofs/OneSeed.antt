@@ -1,6 +1,6 @@
 -- The keys from one seed. Assumes that the seed is not left out, and nothing else.
 --
---   settled-one           no key is numbered before the seed has its turn
+--   settled_one           no key is numbered before the seed has its turn
 --   from_one              the procedure from the seed alone
 --   first_key, some_key   the seed has the number 0
 use mathlib.Core.Path.{◌≡◌, ap, ◌∙◌}

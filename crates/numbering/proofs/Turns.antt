@@ -3,11 +3,11 @@
 -- step of a key that is not left out goes to a cell of the key's own row (`column`), and nothing
 -- else.
 --
---   turn-whole                key i is expanded by the next symbol
---   row_done, row-over        all its symbols are passed, or the 513th key turns up
+--   turn_whole                key i is expanded by the next symbol
+--   row_done, row_over        all its symbols are passed, or the 513th key turns up
 --   row_more                  the whole goes on from each turn
---   grown-whole, grown-over   the ways out of the expansion
---   grown-read                the keys are read off the array again
+--   grown_whole, grown_over   the ways out of the expansion
+--   grown_read                the keys are read off the array again
 --   begin                     nothing is numbered yet
 --   seed-..                   a key is numbered, and the keys from there on are expanded
 use mathlib.Core.Path.{◌≡◌, sym, ap, ◌∙◌, subst}

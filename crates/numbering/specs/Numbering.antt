@@ -6,8 +6,8 @@
 --   Walk                    where a key leads by a symbol, which keys are left out, and k symbols
 --   index_of keys m         the number of the key m; the list's length where it has none
 --   numbered skips keys m   a key not left out keeps the number it has, else it takes the next
---   expand_from, closeFrom, keysUpTo   the procedure: by symbols, in number order, for each seed
---   numberOrNone            the number of a key, or 512 where it is left out
+--   expand_from, close_from, keys_up_to  the procedure: by symbols, in number order, for each seed
+--   number_or_none          the number of a key, or 512 where it is left out
 --   next_of a keys i s       the table: the number of what key i leads to by the symbol s, or 512
 use Rattle.std.specs.Prelude.{Bool, cond, ◌&&◌, ◌||◌, List, [], ◌∷◌, ◌++◌, ℕ, zero, suc, eqb, ltb, length, get_or}
 use Rattle.limits.specs.Limits.{most_sets, empty_set}

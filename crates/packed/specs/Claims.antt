@@ -1,6 +1,6 @@
 -- Every rule as a value has its bytes, and they state it; proofs/Packing.antt proves it.
 --
---   Fits-rule r   the numbers of r are those that the type holds: n and k are bytes, the masks have
+--   FitsRule r    the numbers of r are those that the type holds: n and k are bytes, the masks have
 --                 32 bits, and there are 512 target masks
 use Rattle.std.specs.Prelude.{◌≡◌, List, ℕ, ◌+◌, ◌*◌, ◌^◌, ◌<◌, length, get_or}
 use Rattle.limits.specs.Limits.{most_states, most_symbols, target_cells}

@@ -2,9 +2,9 @@
 -- a target mask for each state and symbol). The first ten bytes are those of a rule file; then come
 -- the 512 target masks, that of state q and symbol s at index q × 16 + s. Numbers are little-endian.
 --
---   packedSize     how many bytes a rule has
---   ruleAt bytes   the rule that the bytes state
---   packedOf r     the bytes that state the rule r
+--   packed_size    how many bytes a rule has
+--   rule_at bytes  the rule that the bytes state
+--   packed_of r    the bytes that state the rule r
 use Rattle.std.specs.Prelude.{List, ◌++◌, ℕ, ◌+◌, ◌*◌, get_or}
 use Rattle.limits.specs.Limits.{target_cells}
 use Rattle.base.specs.Lists.{list_from, joined}

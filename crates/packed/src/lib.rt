@@ -1,4 +1,6 @@
 // A rule as a value, from the bytes that state it.
+#![tactic(auto)]
+
 ghost use Rattle.std.specs.Prelude.{◌≡◌, length};
 ghost use Rattle.packed.specs.Packed.{packed_size, rule_at};
 

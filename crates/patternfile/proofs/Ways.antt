@@ -1,7 +1,7 @@
 -- Each way out of reading a pattern, from what the tests on the way answered. Assumes nothing.
 --
---   on-30, on-31, on-32   a refusal
---   none-on               no condition holds
+--   on_30, on_31, on_32   a refusal
+--   none_on               no condition holds
 --   Read, read            then the bytes stand for a pattern of at most 31 letters, and what was
 --                         read is the rule of its positions
 --   passes, room          which is well formed, and its file has room in the value

@@ -1,16 +1,16 @@
 -- What reading a pattern answers (document 02, R-6), as the code finds it; specs/Claims.antt says it
 -- in the words of the grammar.
 --
---   tooLong b          30: a pattern over 128 bytes
---   noPattern b        31: a pattern outside the grammar
---   tooManyLetters b   32: more than 31 letters
---   patternNumber b    the number of the first that holds, none where the pattern is accepted
---   patternFile b      the rule file of the bytes b, nothing where they are refused
---   patternOf b        what reading the bytes b answers: that number, the length of that file, and
+--   too_long b         30: a pattern over 128 bytes
+--   no_pattern b       31: a pattern outside the grammar
+--   too_many_letters b  32: more than 31 letters
+--   pattern_number b   the number of the first that holds, none where the pattern is accepted
+--   pattern_file b     the rule file of the bytes b, nothing where they are refused
+--   pattern_of b       what reading the bytes b answers: that number, the length of that file, and
 --                      its bytes with zeros after them
---   refusedWith x      a refusal: the number x, and zeros
---   patternOutcome     what the code's result stands for
---   fileIn o           the file in such an outcome: as many of its bytes as it says
+--   refused_with x     a refusal: the number x, and zeros
+--   pattern_outcome    what the code's result stands for
+--   file_in o          the file in such an outcome: as many of its bytes as it says
 use Rattle.std.specs.Prelude.{Bool, not, List, [], ◌∷◌, ℕ, ltb, length, take, replicate}
 use Rattle.std.proofs.Math.Option.{Option, none, some}
 use Rattle.base.specs.Answers.{answer_number}

@@ -4,12 +4,12 @@
 --
 --   LetterIn b i s     the i-th letter of the bytes b, from the left, is the symbol s; there is none
 --                      before the first
---   automatonFor b     the automaton of the file that reading the bytes b answers, from its bytes
+--   automaton_for b    the automaton of the file that reading the bytes b answers, from its bytes
 --   States b a         what the states of the automaton a are: state 0 the start and alone initial,
 --                      state i the i-th letter of the bytes b; and it has 16 symbols
---   Refused-exactly b  which number the bytes b are refused with, in words
+--   RefusedExactly b   which number the bytes b are refused with, in words
 --   AllZero o          the outcome o has length 0, and every byte of it is 0
---   Accepted-for p b   what is answered where the bytes b are accepted, for every pattern p that
+--   AcceptedFor p b    what is answered where the bytes b are accepted, for every pattern p that
 --                      they stand for
 use Rattle.std.specs.Prelude.{◌≡◌, ◌↔◌, ◌⊎◌, List, ℕ, zero, suc, ◌≤◌, ◌<◌, length, get_or, replicate}
 use Rattle.std.proofs.Math.Option.{none, some}

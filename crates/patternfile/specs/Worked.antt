@@ -1,7 +1,7 @@
 -- Patterns worked by hand: one list, and one claim over it. proofs/Examples.antt proves the claim.
 --
 --   nothing          the empty pattern: the empty text
---   starredBracket   `a()*b`: an empty bracket is the empty text, however often
+--   starred_bracket  `a()*b`: an empty bracket is the empty text, however often
 --   bindings         `a|bc*`: the bar binds loosest, the star tightest
 --   skipped          `p*o*|(ap)*`: what may be empty is skipped
 --   twice            `a|a`: the same letter is two positions, and two states

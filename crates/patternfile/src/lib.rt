@@ -1,4 +1,6 @@
 // From the bytes of a pattern to its rule file, by value (document 02, R-6).
+#![tactic(auto)]
+
 ghost use Rattle.std.specs.Prelude.{◌≡◌};
 ghost use Rattle.patternfile.specs.Answers.{pattern_outcome, pattern_of, refused_with};
 

@@ -47,7 +47,7 @@ record Ready (σ : Reading) (o n m : ℕ) : Type 0 where
   frames : length σ.stack ≡ 128
   symbols : length σ.positions ≡ 16
 
--- the stack stands, and the positionsOf and letters of t are added
+-- the stack stands, and the positions_of and letters of t are added
 record Kept (σ τ : Reading) (t : Pattern) (o : ℕ) : Type 0 where
   depth : τ.depth ≡ σ.depth
   frames : length τ.stack ≡ length σ.stack

@@ -2,16 +2,16 @@
 -- the limits does not reach are taken modulo their bound. specs/Claims.antt says what it comes to.
 --
 --   part_of p o         what is known of the part p whose letters are numbered from o + 1 on
---   thenOf, or_of       of one part and then another, and of one or the other
---   linkedOf f l m     the table f in which each position of m also follows each of l
---   markedOf t a q     the table t in which q is a position of the letter a
---   no_part, emptyPart  no alternative yet; a sequence of nothing
---   letterPart q       the letter at position q
---   commitOf r         the item goes to the end of the sequence
---   letterOf r a, barOf r, opened_of r, closedOf r, starredOf r   the reading r after such a sign
---   noFrame            a frame of nothing, where the stack has none
---   afterSign r s      the reading r after one sign more
---   afterBytes r bs    the reading r after the bytes bs
+--   then_of, or_of      of one part and then another, and of one or the other
+--   linked_of f l m    the table f in which each position of m also follows each of l
+--   marked_of t a q    the table t in which q is a position of the letter a
+--   no_part, empty_part  no alternative yet; a sequence of nothing
+--   letter_part q      the letter at position q
+--   commit_of r        the item goes to the end of the sequence
+--   letter_of r a, bar_of r, opened_of r, closed_of r, starred_of r  the reading r after such a sign
+--   no_frame           a frame of nothing, where the stack has none
+--   after_sign r s     the reading r after one sign more
+--   after_bytes r bs   the reading r after the bytes bs
 --   beginning          the reading before the first byte
 --   finished r         the reading after the last: the alternatives are the pattern
 --   Positions r p      the reading has the sets of the positions of p

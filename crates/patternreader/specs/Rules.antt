@@ -1,9 +1,9 @@
 -- The rule of a pattern's bytes, as the code makes it of a reading.
 --
 --   rows_of r            the states that may come next, state by state; row 0 is for the start
---   targetsOf rows ps   the masks of the arcs: those that may come next and have the letter
---   ruleFrom r          the rule of a reading
---   ruleRead b          the rule of the bytes b
+--   targets_of rows ps  the masks of the arcs: those that may come next and have the letter
+--   rule_from r         the rule of a reading
+--   rule_read b         the rule of the bytes b
 use Rattle.std.specs.Prelude.{cond, List, ℕ, ◌+◌, ◌/◌, ◌%◌, get_or, set}
 use Rattle.std.specs.Int.Bits.{bit_or, bit_and}
 use Rattle.base.specs.Lists.{list_from}

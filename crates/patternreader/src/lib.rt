@@ -1,5 +1,7 @@
 // Reads a pattern byte by byte into the sets of its positions, and makes the rule of them: one pass
 // with a stack of what stands before each open bracket.
+#![tactic(auto)]
+
 ghost use Rattle.std.specs.Prelude.{◌≡◌, cond, ◌&&◌, ◌||◌};
 ghost use Rattle.patternreader.specs.Reader.{then_of, or_of, linked_of, no_part, empty_part};
 ghost use Rattle.patternreader.specs.Reader.{commit_of, letter_of, bar_of, opened_of, closed_of};

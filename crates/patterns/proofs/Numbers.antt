@@ -4,8 +4,8 @@
 --   number p o x           the number of place x, where the letters are numbered from o + 1 on
 --   above, within, same_place   it is one of them, and of no other place
 --   Place, Pair            a place, or two, one after the other, with their numbers
---   first_of, last_of, positions-of, follow-of   from a mask to a place
---   in-first, in-last, in-positions, in-follow   from a place to the mask
+--   first_of, last_of, positions_of_lem, follow_of_lem  from a mask to a place
+--   in_first_lem, in_last, in_positions, in_follow  from a place to the mask
 use mathlib.Core.Path.{◌≡◌, refl, sym, ap}
 use mathlib.Core.Logic.{inl, inr, ⊎_elim}
 use mathlib.Core.Bool.{Bool, true, false, cond}

@@ -3,14 +3,14 @@
 -- nothing.
 --
 --   Position p            a letter's place in p
---   letterAt p x          the letter
+--   letter_at p x         the letter
 --   First, Last, Follow   as in specs/Positions.antt, of places
 --   Residual p x w        the text w may follow position x
 --   begins                a text of p is empty, where p is nullable, or a first letter with what
 --                         may follow it
 --   goes_on               what may follow x is nothing, where x is a last position, or a letter
 --                         that follows x with what may follow that
---   began-empty, began-at, ended, went_on   the same, the other way
+--   began_empty, began_at, ended, went_on   the same, the other way
 use mathlib.Core.Path.{◌≡◌, refl, sym, ap, ◌∙◌, subst}
 use mathlib.Core.Logic.{◌⊎◌, inl, inr, ⊎_elim}
 use mathlib.Core.Bool.{Bool, true, false, ◌&&◌, ◌||◌}

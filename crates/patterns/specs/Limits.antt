@@ -1,8 +1,8 @@
 -- The limits of patterns (document 02, R-6). src/lib.rt has them for code.
 --
---   longestPattern      the most bytes of a pattern
---   mostLetters         the most letters of a pattern: a rule has 32 states, one of them the start
---   longestPatternFile  the most bytes of a pattern's rule file
+--   longest_pattern     the most bytes of a pattern
+--   most_letters        the most letters of a pattern: a rule has 32 states, one of them the start
+--   longest_pattern_file  the most bytes of a pattern's rule file
 use Rattle.std.specs.Prelude.{ℕ}
 
 abbrev pub longest_pattern : ℕ

@@ -5,10 +5,10 @@
 --   first p o          the positions at which a text of p can begin
 --   last p o           the positions at which it can end
 --   follow p o i       the positions that can come right after position i
---   positionsOf p o s  the positions with the letter s
---   nextStates p q     the states that can come right after state q: the first positions after the
+--   positions_of p o s  the positions with the letter s
+--   next_states p q    the states that can come right after state q: the first positions after the
 --                      start, else those that follow the position
---   positionRule p     the rule: state 0 is the start, state i the i-th letter from the left
+--   position_rule p    the rule: state 0 is the start, state i the i-th letter from the left
 use Rattle.std.specs.Prelude.{Bool, true, false, cond, ◌&&◌, ◌||◌, ℕ, zero, suc, ◌+◌, ◌/◌, ◌%◌, eqb}
 use Rattle.std.specs.Int.Bits.{bit_or, bit_and}
 use Rattle.base.specs.Lists.{list_from}

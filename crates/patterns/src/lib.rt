@@ -1,6 +1,7 @@
 // Patterns for shop owners (document 02, R-6): the limits of patterns and of their rule files, for
 // code. What patterns and their positions are, and that the positions' rule accepts the pattern's
 // texts, stands in specs/ and proofs/; crates/patternscan and crates/patternreader read patterns.
+#![tactic(auto)]
 
 // The most bytes of a pattern.
 pub const PATTERN: usize = 128;

@@ -2,8 +2,8 @@
 -- 124; any other byte is foreign.
 --
 --   sign_of b      what the byte b is
---   symbolsOf s   the symbol of a letter, nothing for another sign
---   lettersIn bs  the letters among the bytes, from the left, as symbols
+--   symbols_of s  the symbol of a letter, nothing for another sign
+--   letters_in bs  the letters among the bytes, from the left, as symbols
 use Rattle.std.specs.Prelude.{cond, List, [], ◌∷◌, ◌++◌, ℕ, ◌-◌, eqb, ltb, leb}
 use Rattle.patternscan.specs.declared.Sign.{Sign}
 use Rattle.patternscan.specs.declared.Sign.TheVariants.{Letter, Bar, Opens, Closes, Star, Foreign}

@@ -1,5 +1,7 @@
 // The bytes of a pattern: what each byte is, whether they are a pattern at all, and how many
 // letters they have.
+#![tactic(auto)]
+
 ghost use Rattle.std.specs.Prelude.{◌≡◌, ◌<◌, ◌≤◌, length};
 ghost use Rattle.patternscan.specs.declared.Scan.TheVariants.{Within};
 ghost use Rattle.patternscan.specs.Signs.{sign_of, symbols_of, letters_in};

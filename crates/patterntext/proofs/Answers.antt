@@ -1,7 +1,7 @@
 -- The answer to a pattern, from what reading it answers, and its length. Assumes nothing.
 --
 --   told-length, told-room   the file fits into its value, which has so many bytes
---   told-file                the bytes that it says are the file
+--   told_file                the bytes that it says are the file
 --   accepted, refused        what is to be written
 --   text-fits                an answer fits into its room
 use mathlib.Core.Path.{◌≡◌, refl, sym, ap, ap₂, ◌∙◌, subst}

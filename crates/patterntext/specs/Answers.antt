@@ -1,8 +1,8 @@
 -- What `patternrule` answers to a line: as text, in ASCII.
 --
---   answerRoom     room for an answer: two hex digits for each byte of the longest file, and a line
+--   answer_room    room for an answer: two hex digits for each byte of the longest file, and a line
 --                  feed
---   answerText b   the answer to the pattern b: the digits of its rule file, or `refused` and the
+--   answer_text b  the answer to the pattern b: the digits of its rule file, or `refused` and the
 --                  number; and a line feed
 use Rattle.std.specs.Prelude.{List, [], ◌∷◌, ◌++◌, ℕ, ◌+◌, ◌*◌}
 use Rattle.std.proofs.Math.Option.{Option, none, some}

@@ -1,8 +1,8 @@
 -- A text of patterns, one a line, that comes in blocks (`linetexts`).
 --
---   patternTeller   the machine that answers lines: one that is longer than a pattern may be is
+--   pattern_teller  the machine that answers lines: one that is longer than a pattern may be is
 --                   refused with 30
---   patternLines    the same, as it keeps a line
+--   pattern_lines   the same, as it keeps a line
 use Rattle.ruletext.specs.RuleText.{refused_text}
 use Rattle.linetexts.specs.Feeding.{LineMachine}
 use Rattle.linetexts.specs.Beginnings.{Beginning, Teller, by_beginning}

@@ -1,8 +1,8 @@
 -- A text of two lines and their answers, in bytes, by hand.
 --
---   twoLines     an empty line, which is the empty pattern, and `*a`, whose star stands after
+--   two_lines    an empty line, which is the empty pattern, and `*a`, whose star stands after
 --                nothing
---   twoAnswers   `011001000000010000000E000000`: one state, which is initial and final, 16 symbols
+--   two_answers  `011001000000010000000E000000`: one state, which is initial and final, 16 symbols
 --                and no arc; and `refused 31`
 use Rattle.std.specs.Prelude.{List, [], ◌∷◌, ◌++◌, ℕ}
 

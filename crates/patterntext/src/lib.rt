@@ -1,5 +1,7 @@
 // Patterns as lines of text, and their answers: the rule file in hex digits, or `refused` and the
 // number. A text of lines comes in blocks, cut anywhere.
+#![tactic(auto)]
+
 ghost use Rattle.std.specs.Prelude.{◌+◌, ◌≤◌, length};
 ghost use Rattle.text.specs.Writing.{Wrote};
 ghost use Rattle.linetexts.specs.Feeding.{finish_of};

@@ -1,8 +1,8 @@
 -- Pairs as numbers: the pair (x, y) with y below n is x * n + y. Assumes nothing.
 --
---   left-of, right_of         the members of a pair
---   left_below, right-below   those of a number below m * n are below m and n
---   pair-below                and the other way round
+--   left_of, right_of         the members of a pair
+--   left_below, right_below   those of a number below m * n are below m and n
+--   pair_below                and the other way round
 --   rest_of                   the second member is what the first leaves
 use mathlib.Core.Path.{◌≡◌, ap, ◌∙◌}
 use Prim.Native.Nat.{ℕ, zero, suc, ◌+◌, ◌-◌, ◌*◌, ◌/◌, ◌%◌, ◌<◌}

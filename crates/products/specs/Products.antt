@@ -3,7 +3,7 @@
 --   Moving               the way in which a pair of states moves: both members together, or one
 --                        alone
 --   pair_of n2 q1 q2      the state that is the pair (q1, q2): q1 × n2 + q2
---   firstIn, secondIn    the members of the pair that a state is
+--   first_in, second_in  the members of the pair that a state is
 --   Moves way a b ..     the pair (q1, q2) moves by the symbol s to the pair (p1, p2)
 --   OfBoth n2 P R q      what the pair q is when both its members are
 --   product way a b      the automaton of pairs

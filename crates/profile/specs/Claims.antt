@@ -2,13 +2,13 @@
 --
 --   Takes r           building accepts the rule r: there is a profile of it
 --   ManyMappings r    513 texts have mappings of which no two are the same
---   Refused-exactly r which number building is refused with, condition by condition
+--   RefusedExactly r which number building is refused with, condition by condition
 --   AllZero p         every number of the profile p is 0
---   nextIn p i s      the table's cell for mapping i and symbol s
+--   next_in p i s     the table's cell for mapping i and symbol s
 --   Machine r p       p is 000's simultaneous automaton of the rule r: its states are the mappings
 --                     of texts, each with one number, the identity first, in the order of their
 --                     first texts; and a symbol leads from f to f • δ^σ
---   Runs-exactly p w  what a run of the chunk w on the profile p answers, condition by condition
+--   RunsExactly p w   what a run of the chunk w on the profile p answers, condition by condition
 use Rattle.std.specs.Prelude.{◌≡◌, ◌↔◌, ◌⊎◌, true, ℕ, ◌+◌, ◌*◌, ◌≤◌, ◌<◌, length, get_or, replicate}
 use mathlib.Core.List.{List, [], map, flatten}
 use Rattle.std.proofs.Math.Option.{none, some}

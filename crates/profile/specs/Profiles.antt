@@ -1,18 +1,18 @@
 -- What building a profile answers (document 02, R-8): the simultaneous automaton of a rule, which
 -- is 000's definition 5.
 --
---   manyMappings r       the rule has more than 512 mappings
---   ownConditions r      33, more than eight states, and 34, more than 512 mappings
---   buildNumber r        the number with which building is refused, none where it is accepted:
+--   many_mappings r      the rule has more than 512 mappings
+--   own_conditions r     33, more than eight states, and 34, more than 512 mappings
+--   build_number r       the number with which building is refused, none where it is accepted:
 --                        those of a checked rule (3, 4, 6, 8), then 33, then 34
---   Reply, buildMeans    the answer: accepted with the number of mappings, or refused with a
+--   Reply, build_means   the answer: accepted with the number of mappings, or refused with a
 --                        number; and what each case of the code's answer says
---   profileOf r          the profile of the rule r, every field: the mappings in number order, and
+--   profile_of r         the profile of the rule r, every field: the mappings in number order, and
 --                        the table of what mapping i leads to by symbol s; zeros elsewhere
---   noProfile            zeros, which a refusal carries
---   Building, buildOutcome   the answer and the profile; and what the code's result stands for
---   refusedBuild x       refused with the number x
---   buildOf r            what building the rule r answers
+--   no_profile           zeros, which a refusal carries
+--   Building, build_outcome  the answer and the profile; and what the code's result stands for
+--   refused_build x      refused with the number x
+--   build_of r           what building the rule r answers
 use Rattle.std.specs.Prelude.{Bool, List, [], ◌∷◌, ◌++◌, ℕ, ltb, length, replicate}
 use Rattle.std.proofs.Math.Option.{Option, none, some}
 use Rattle.limits.specs.Limits.{most_sets, table_cells}

@@ -2,16 +2,16 @@
 -- profile that a build returned specs/Claims.antt says what this comes to; of any other the answer
 -- is free, and this is what it is.
 --
---   walkTo next i w       where the text w leads from number i over the table
---   mappingIn p i         mapping number i
---   Ran, runOutcome       the answer, none or the number of a refusal, and the mapping; and what
+--   walk_to next i w      where the text w leads from number i over the table
+--   mapping_in p i        mapping number i
+--   Ran, run_outcome      the answer, none or the number of a refusal, and the mapping; and what
 --                         the code's result stands for
---   refusedRun x          refused with the number x: zeros
---   run_of p w             what a run of the chunk w answers: refused with 12 or 13 (chunks' chunkNumber), or the
+--   refused_run x         refused with the number x: zeros
+--   run_of p w             what a run of the chunk w answers: refused with 12 or 13 (chunks' chunk_number), or the
 --                         mapping that its text, without its idle marks, leads to
 --   Lends p k next packed  the profile p has k symbols, the table next and the mappings packed: all
 --                         that a run reads of it
---   verdictOf p f         the verdict of the mapping f: yes where it leads from an initial state to
+--   verdict_of p f        the verdict of the mapping f: yes where it leads from an initial state to
 --                         a final one
 use Rattle.std.specs.Prelude.{◌≡◌, Bool, List, [], ◌∷◌, ℕ, ◌+◌, ◌*◌, ◌%◌, get_or, replicate}
 use Rattle.std.proofs.Math.Option.{Option, none, some}

@@ -1,9 +1,9 @@
 -- Profiles worked by hand: one list, and one claim over it. proofs/Examples.antt proves the claim.
 --
---   ruleA             rule A of document 01 (crates/rulecheck)
---   ruleB             rule B of document 01
+--   rule_A            rule A of document 01 (crates/rulecheck)
+--   rule_B            rule B of document 01
 --   of a b c          the mapping of three states to the sets a, b and c: eight masks
---   mappingsIn p      the mappings of the profile p, in number order
+--   mappings_in p     the mappings of the profile p, in number order
 --   case r reply fs   the rule r is built with the reply, and has the mappings fs
 --   profiles          the list
 --   Answered cases    each rule has the reply and the mappings beside it

@@ -1,5 +1,7 @@
 // The mapping machine of a rule of at most eight states. It is built once; a chunk is then one run,
 // which answers the chunk's mapping, and mappings say yes or no.
+#![tactic(auto)]
+
 ghost use Rattle.std.specs.Prelude.{◌≡◌, List, ℕ, ◌≤◌, length};
 ghost use Rattle.limits.specs.Limits.{longest_chunk};
 ghost use Rattle.marks.specs.Marks.{text_of};

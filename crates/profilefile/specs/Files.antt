@@ -1,6 +1,6 @@
 -- The profile of the rule in a file: the file is read, and its rule built.
 --
---   profileIn f   what that answers: refused with 1 to 8 by reading, else what building answers
+--   profile_in f  what that answers: refused with 1 to 8 by reading, else what building answers
 use Rattle.std.specs.Prelude.{List, ℕ}
 use Rattle.std.proofs.Math.Option.{Option, none, some}
 use Rattle.ruleformat.specs.Refusals.{refusal}

@@ -1,4 +1,6 @@
 // The profile of the rule in a file.
+#![tactic(auto)]
+
 ghost use Rattle.std.specs.Prelude.{◌≡◌};
 ghost use Rattle.profile.specs.Profiles.{build_outcome};
 ghost use Rattle.profilefile.specs.Files.{profile_in};

@@ -1,8 +1,8 @@
 -- How long the parts of the text are at most. Assumes nothing.
 --
---   line-most, lines-most  85 for each mapping
---   head-most              13
---   profile-most           43,533
+--   line_most, lines_most  85 for each mapping
+--   head_most              13
+--   profile_most           43,533
 use mathlib.Core.List.{List, [], ◌∷◌, ◌++◌}
 use Prim.Native.Nat.{ℕ, ◌*◌, ◌≤◌, ◌<◌, min}
 use native.Mathlib.Omega.{arith}

@@ -1,11 +1,11 @@
 -- What `profileprint` prints, as byte values: fields with one space between them, each line ended by
 -- one line feed.
 --
---   profileText p   the number of mappings; a line for each: its number, its masks in sixteen hex
+--   profile_text p  the number of mappings; a line for each: its number, its masks in sixteen hex
 --                   digits and, for each symbol, the number of the mapping that it leads to
---   textFor f       the text for the rule file f: that of its profile, or `refused` and the first
+--   text_for f      the text for the rule file f: that of its profile, or `refused` and the first
 --                   number of 1 to 8, 33 and 34 whose condition holds
---   mostBytes       so many bytes have room for the text of any file (specs/Claims.antt)
+--   most_bytes      so many bytes have room for the text of any file (specs/Claims.antt)
 use Rattle.std.specs.Prelude.{List, [], ◌∷◌, ◌++◌, ℕ, ◌+◌, ◌*◌, min, get_or}
 use Rattle.limits.specs.Limits.{most_symbols, most_sets}
 use Rattle.base.specs.Lists.{joined}

@@ -1,6 +1,6 @@
 -- What is printed for rule A, in bytes, by hand.
 --
---   linesA   `mappings 5`
+--   lines_A  `mappings 5`
 --            `0 0102040000000000 1 2`
 --            `1 0300000000000000 1 3`
 --            `2 0104000000000000 1 4`

@@ -1,7 +1,7 @@
 -- How a question is answered, a line each.
 --
---   findingText f   the line of a diagnosis: `lost P`, `open M`, or a refusal
---   spotText s      the line of what was located: `after B`, `nowhere`, or a refusal
+--   finding_text f  the line of a diagnosis: `lost P`, `open M`, or a refusal
+--   spot_text s     the line of what was located: `after B`, `nowhere`, or a refusal
 use Rattle.std.specs.Prelude.{List, [], ◌∷◌, ℕ}
 use Rattle.answers.specs.Answers.{line_of, refused_text}
 use Rattle.diagnoses.specs.Diagnosing.{Finding, refused_as, lost_at, open_with}

@@ -2,7 +2,7 @@
 -- has a line. proofs/Exact.antt proves it.
 --
 --   FitsQuestion q     the question q has a number of 64 bits and bytes that are bytes
---   questionLine q     the line of the question q, without its line feed
+--   question_line q    the line of the question q, without its line feed
 --   SaysQuestion l q   the line l is the word of the question q and its fields, one space between them:
 --                      the number with leading zeros or without, the bytes in either case
 use Rattle.std.specs.Prelude.{◌≡◌, ◌↔◌, List, [], ◌∷◌, ◌++◌, ℕ, ◌≤◌}

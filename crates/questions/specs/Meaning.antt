@@ -9,12 +9,12 @@
 --     question q       the question q is asked
 --     recorded m       it means m, as in a recorded list: a fresh judge, a call, or nothing
 --   …-word             the word with which a line begins
---   isWord h w         the line w is the word h
---   locateBy, locateFields   the question, from what the fields say
---   questionIn w       the question that the line w asks, if it asks one
---   meaningIn w        what the line w means
---   queryMeans w q, textMeans w r   what each case of the code's answer says of the line w
---   queryFrom q, textFrom r         the index from which on the bytes are still to be read
+--   is_word h w        the line w is the word h
+--   locate_by, locate_fields  the question, from what the fields say
+--   question_in w      the question that the line w asks, if it asks one
+--   meaning_in w       what the line w means
+--   query_means w q, text_means w r  what each case of the code's answer says of the line w
+--   query_from q, text_from r       the index from which on the bytes are still to be read
 --   Parsed w r         r is the right answer for the line w
 use Rattle.std.specs.Prelude.{◌≡◌, Bool, cond, ◌&&◌, List, [], ◌∷◌, ℕ, ◌≤◌, eqb, length, drop}
 use Rattle.std.proofs.Math.Option.{Option, none, some}

@@ -1,5 +1,7 @@
 // The questions among the lines of a text of calls, which change nothing: what such a line means,
 // and how its answer is written.
+#![tactic(auto)]
+
 ghost use Rattle.std.specs.Prelude.{◌≡◌, ◌≤◌, length, drop};
 ghost use Rattle.limits.specs.Limits.{answer_room};
 ghost use Rattle.text.specs.Writing.{Wrote};

@@ -1,6 +1,8 @@
 // Reduces a rule: dead and unreachable states go, alike states become the lowest reachable one of
 // them, and what is left is numbered anew from 0 in its old order. Any numbers may stand in the
 // rule.
+#![tactic(auto)]
+
 ghost use Rattle.std.specs.Prelude.{◌≡◌, ◌≤◌, ◌<◌, max, ◌&&◌, not, eqb, get_or};
 ghost use Rattle.base.specs.Lists.{list_from};
 ghost use Rattle.limits.specs.Limits.{most_states, most_symbols, target_cells};

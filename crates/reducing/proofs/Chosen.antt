@@ -2,7 +2,7 @@
 -- rule and the list of its automaton's delegates.
 --
 --   by_itself     each state stands for itself
---   reached-law   the set of reached states has the reachable ones
+--   reached_law   the set of reached states has the reachable ones
 --   choice        the list of what stands for each
 use mathlib.Core.Path.{◌≡◌, refl, sym, ap, ◌∙◌, subst}
 use mathlib.Core.Logic.{◌↔◌, ⊎_elim}

@@ -2,10 +2,10 @@
 -- one. Assumes a well-formed rule and a list of what stands for its states.
 --
 --   delegated-law     the delegates of the members of a set
---   Stays, stays-in   what a state that stays is the delegate of
+--   Stays, stays_in   what a state that stays is the delegate of
 --   closed            where an arc leads from a state that stays, the delegate stays
 --   target-law        the masks of the new table
---   well-formed, quotient, reached-in
+--   well_formed, quotient, reached_in
 use mathlib.Core.Path.{◌≡◌, refl, sym, ap, subst}
 use mathlib.Core.Logic.{⊎_elim}
 use mathlib.Core.Bool.{Bool, true, false, cond}

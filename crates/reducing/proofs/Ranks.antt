@@ -1,9 +1,9 @@
 -- New numbers: they rise with the states that stay, and every number below their count is one.
 -- Assumes nothing.
 --
---   rank-more, rank_mono, rank_less, rank-once, rank-onto
+--   rank-more, rank_mono, rank_less, rank_once, rank_onto
 --   gather-law     the members of a union of sets
---   renamed-law    the members of a renamed set
+--   renamed_law    the members of a renamed set
 use mathlib.Core.Path.{◌≡◌, subst}
 use mathlib.Core.Logic.{◌↔◌, ⊎_elim}
 use Prim.Native.Nat.{ℕ, zero, suc, ◌≤◌, ◌<◌}

@@ -2,7 +2,7 @@
 -- proves it.
 --
 --   Nothing a        the automaton accepts no text
---   emptyRule k      one state, no arcs, no initial and no final state
+--   empty_rule k     one state, no arcs, no initial and no final state
 --   Lean r           every state is reached from an initial state, every state is live, no two are
 --                    alike
 --   Reachable r x    some text leads from an initial state to x

@@ -7,21 +7,21 @@
 --   delegated d m           what stands for the members of m: none for a state that leads nowhere
 --   onward ts d m           m, with what stands for every target of an arc from a member of m
 --   rounds ts d m i         what at most i such steps lead to from m
---   keptOf ts d initials    the states that stay: what any number of steps leads to from what
+--   kept_of ts d initials   the states that stay: what any number of steps leads to from what
 --                           stands for the initial states. There are at most 32 states, so 32 steps
 --                           are enough
---   ownList                 the list in which each state stands for itself
---   reachedOf ts initials   the states that are reached from an initial state
+--   own_list                the list in which each state stands for itself
+--   reached_of ts initials  the states that are reached from an initial state
 --   chosen_of d reached      the list in which the lowest reached state with the same delegate
 --                           stands for each reached state, and none for one that has none
 --                           (the new number of a state q is masks' rank kept q: how many states
 --                           that stay are below q)
 --   renamed kept m          the new numbers of the members of m that stay
 --   row_of .. p s q          the new targets of the old state q where its new number is p, else none
---   targetsOf .. p s        the targets of the new state p by the symbol s
---   cellIn .. cell          a cell of the new table, 0 for what is no state of it
---   reducedBy r d kept      the rule: one state at least
---   listIn r, keptIn r, reducedOf r   by the rule's own delegates, those that building finds
+--   targets_of .. p s       the targets of the new state p by the symbol s
+--   cell_in .. cell         a cell of the new table, 0 for what is no state of it
+--   reduced_by r d kept     the rule: one state at least
+--   list_in r, kept_in r, reduced_of r  by the rule's own delegates, those that building finds
 use Rattle.std.specs.Prelude.{cond, ◌&&◌, List, ℕ, zero, suc, ◌/◌, ◌%◌, max, eqb, ltb, get_or}
 use Rattle.std.specs.Int.Bits.{bit_and, bit_or}
 use Rattle.base.specs.Lists.{list_from}

@@ -4,9 +4,9 @@
 --
 --   Reducing        what reducing answers: the number, or none; a rule; and whether that rule
 --                   installs: its installation is accepted
---   reduceOutcome   what the code's result stands for
---   refusedBy number   a refusal, with zeros
---   reduceOf r      what reducing the rule r answers
+--   reduce_outcome  what the code's result stands for
+--   refused_by number  a refusal, with zeros
+--   reduce_of r     what reducing the rule r answers
 use Rattle.std.specs.Prelude.{Bool, false, ℕ}
 use Rattle.std.proofs.Math.Option.{Option, none, some}
 use Rattle.base.specs.Answers.{answer_number}

@@ -6,15 +6,15 @@
 --   ring q i masks     the masks of a ring, in which q leads to q + 1, .. and q + i back to q; and
 --                      then others
 --   once, twice        the texts 0, and 0 0: a state leads to the next, and the last is final
---   twiceOrThrice      the texts 0 0 and 0 0 0: the same, and the last two of four states are final
+--   twice_or_thrice    the texts 0 0 and 0 0 0: the same, and the last two of four states are final
 --   odd                the texts of odd length: 0 and 1 lead to each other, and 1 is final
 --   even               the texts with an even number of 0s: 0, which is initial and final, and 1
 --                      lead to each other by 0, and each to itself by 1
---   notReached, dead, lowerNotReached, second, alike, behindMerged, noText
+--   not_reached, dead, lower_not_reached, second, alike, behind_merged, no_text
 --                      rules that are not lean
---   fewSets, manySets  a rule with 99 sets, and what it is reduced to, with more than 512
---   reducedTo r        accepted with the rule r, which installs
---   tooLarge r         accepted with the rule r, which does not
+--   few_sets, many_sets  a rule with 99 sets, and what it is reduced to, with more than 512
+--   reduced_to r       accepted with the rule r, which installs
+--   too_large r        accepted with the rule r, which does not
 --   case r m           the rule r, reduced, comes to m
 --   reductions         the list
 --   Answered cases     each comes to what stands beside it

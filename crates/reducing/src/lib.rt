@@ -1,5 +1,7 @@
 // A rule reduced: what reducing answers. The reduced rule and what it promises are defined in specs/;
 // crates/reduce has the function.
+#![tactic(auto)]
+
 use automaton::Rule;
 use base::Answer;
 

@@ -1,9 +1,9 @@
 -- One line of a record. Assumes nothing.
 --
---   stays-malformed      what follows a malformed line is of no matter
---   malformed-line       a line that is answered `malformed` is
---   read-on              any other line adds what it calls to the list, or begins a new one
---   lines-on             the lines of a text from an index on
+--   stays_malformed      what follows a malformed line is of no matter
+--   malformed_line_lem   a line that is answered `malformed` is
+--   read_on_lem          any other line adds what it calls to the list, or begins a new one
+--   lines_on             the lines of a text from an index on
 use mathlib.Core.Path.{◌≡◌, refl, sym, ap, ap₂, ◌∙◌}
 use mathlib.Core.Bool.{true, false, true≢false}
 use mathlib.Core.List.{List, [], ◌∷◌}

@@ -3,7 +3,7 @@
 --
 --   AllFit h      each call of h has numbers of 64 bits, a revision of 32, bytes that are bytes, of
 --                 a chunk and of a file, and a rule whose numbers the type holds
---   recordOf h    the record of the calls h, of which the last is first: a line each, in the order
+--   record_of h   the record of the calls h, of which the last is first: a line each, in the order
 --                 in which they are made
 --   FirstMalformed ls j   line j of the lines ls, counted from 0, is malformed, and none before it
 use Rattle.std.specs.Prelude.{◌≡◌, ◌↔◌, List, [], ◌∷◌, ◌++◌, ℕ, suc, ◌<◌, length, get_or}

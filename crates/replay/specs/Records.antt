@@ -3,13 +3,13 @@
 --
 --   Recorded       the calls of a record, the last first, as a history has them; or the number of
 --                  its first malformed line, counted from 1
---   read_on, readLine, readLines   a line more, by its meaning; a line, and lines from a number on
---   recordIn w     what the text w records. An empty line begins a fresh judge: the calls are those
+--   read_on, read_line, read_lines  a line more, by its meaning; a line, and lines from a number on
+--   record_in w    what the text w records. An empty line begins a fresh judge: the calls are those
 --                  after the last one
 --   ReplayReply    what replaying a record answers: what a verdict reports, or that a line is
 --                  malformed
---   replayMeans r       what each case of the code's answer says
---   replayOf s     the right answer for a record that says s
+--   replay_means r      what each case of the code's answer says
+--   replay_of s    the right answer for a record that says s
 use Rattle.std.specs.Prelude.{List, [], ◌∷◌, ℕ, suc}
 use Rattle.lines.specs.Splitting.{lines_of}
 use Rattle.calls.specs.Replies.{Reported, report_means}

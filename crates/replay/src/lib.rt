@@ -1,4 +1,6 @@
 // Replays a recorded list of calls on a fresh judge and answers the verdict after them.
+#![tactic(auto)]
+
 ghost use Rattle.std.specs.Prelude.{◌≡◌, ◌+◌, ◌≤◌, min, length};
 ghost use Rattle.limits.specs.Limits.{bytes_room};
 ghost use Rattle.callrun.specs.Running.{Scratch};

@@ -6,23 +6,23 @@
 --   Due one two a                the answer that is due, in words        compare/specs/Compared
 --   Only, Apart, FirstApart      one rule alone accepts; the first text  compare/specs/Compared
 --   Same, ManyPairs, Searched    no such text; too many pairs; neither   compare/specs/Compared
---   pairNumber one two           3, 4, 6, 8 of either rule, and 36       compare/specs/Compared
---   exchanged a, otherRule       the rules' names exchanged              compare/specs/Compared
---   ofRule which x y             what belongs to the named rule          compare/specs/Compared
---   setAfter r w                 the set that a text leads to            samples/specs/Samples
+--   pair_number one two          3, 4, 6, 8 of either rule, and 36       compare/specs/Compared
+--   exchanged a, other_rule      the rules' names exchanged              compare/specs/Compared
+--   of_rule which x y            what belongs to the named rule          compare/specs/Compared
+--   set_after r w                the set that a text leads to            samples/specs/Samples
 --   NoLater, Sooner, Lex         the order of texts                      numbering/specs/Texts
 --   Accepts, Run, Equivalent     automata and their runs (000)           automaton/specs/Automaton
 --   Reached a m w p              some member of m has a run over w to p  automaton/specs/Successor
---   ruleNumber r, WellFormed     3, 4, 6, 8 of a rule as a value (R-3)   rulecheck/specs/Checking, automaton/specs/Rules
---   Carries a o; outcomeOf a     a value that carries the answer a       compare/specs/Values
---   compareOf one two            the answer that the code gives          compare/specs/Search
---   Refused-exactly              number by number                        compare/specs/Claims
+--   rule_number r, WellFormed    3, 4, 6, 8 of a rule as a value (R-3)   rulecheck/specs/Checking, automaton/specs/Rules
+--   Carries a o; outcome_of a    a value that carries the answer a       compare/specs/Values
+--   compare_of one two           the answer that the code gives          compare/specs/Search
+--   RefusedExactly               number by number                        compare/specs/Claims
 --   pairs, Answered              rules compared by hand                  compare/specs/Worked
 --   MayCompare, MayCompareC      what the functions' contracts allow     requests/specs/CompareFunction
---   comparisonShown              C's numbers                             c_compare/specs/Numbers
---   verdictIn h, textIn h        what 01 says of a list of calls         histories/specs/History
+--   comparison_shown             C's numbers                             c_compare/specs/Numbers
+--   verdict_in h, text_in h      what 01 says of a list of calls         histories/specs/History
 --
--- one and two are any values, in which any numbers may stand. What compareOf does need not be believed:
+-- one and two are any values, in which any numbers may stand. What compare_of does need not be believed:
 -- `due` says that it is the answer of the words, and no other is. A proved function ends and stays within
 -- its bounds. Assumes nothing.
 -- All that they rest on stands in these files of specs/ (tests/believed):

@@ -5,23 +5,23 @@
 --   RowFault h b i            the first wrong row                        trayfaults/specs/Faults
 --   RowsRight h               there is none                              trayfaults/specs/Faults
 --   Before h m                m bands stand before the first empty one   trayfaults/specs/Faults
---   columnText h m c k        column c of the first k rows               trayfaults/specs/Faults
+--   column_text h m c k       column c of the first k rows               trayfaults/specs/Faults
 --   ColumnLost h m c b i      column c is the first that is lost, with   trayfaults/specs/Faults
 --                             row i of band b
 --   Short h c, Open h m       the first short column; none of these      trayfaults/specs/Faults
 --   Faulted h f               the finding f is the list's                trayfaults/specs/Faults
 --   IsFault f                 f is a row, a column or a short one        trayfaults/specs/Faults
 --   AcceptsNothing h          the column rule accepts no text            trayfaults/specs/Faults
---   rowsBelow at b            how many rows the bands below b have       trays/specs/Claims
---   columnOf c rows           the event at c of each row                 trays/specs/Rows
+--   rows_below at b           how many rows the bands below b have       trays/specs/Claims
+--   column_of c rows          the event at c of each row                 trays/specs/Rows
 --   Finding                   what is answered                           faults/specs/Faulting
---   rowIn h, standing h p, .. what R-13 says of a list of calls          trayhistories/specs/History
+--   row_in h, standing h p, .. what R-13 says of a list of calls         trayhistories/specs/History
 --   Accepts                   automata and their runs (000)              automaton/specs/Automaton
 --   MayFault                  what the function's contract allows        trayfaults/specs/Functions
 --   MayFaultC                 the same of the one that C links           specs/FaultFunctions
---   faultShown                C's numbers                                c_faults/specs/Numbers
+--   fault_shown               C's numbers                                c_faults/specs/Numbers
 --
--- h is any list of calls, the last one first. faultOf, what the code does on any state, need not be
+-- h is any list of calls, the last one first. fault_of, what the code does on any state, need not be
 -- believed: `faulted` says that after every list it is the words', and no other answer is. A proved
 -- function ends and stays within its bounds. Assumes nothing.
 -- All that they rest on stands in these files of specs/ (tests/believed):

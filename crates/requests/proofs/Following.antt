@@ -2,26 +2,26 @@
 -- Under each stands the theorem that meets it; its proof only cites the file that has it. To believe
 -- them, read the definitions that they name:
 --
---   Outcome, followOf r m w      the answer, every field; what following a chunk answers   follow/specs/Following
---   followNumber r w             the number with which it is refused       follow/specs/Following
+--   Outcome, follow_of r m w     the answer, every field; what following a chunk answers   follow/specs/Following
+--   follow_number r w            the number with which it is refused       follow/specs/Following
 --   handed r m ws                the set that the caller hands on          follow/specs/Claims
---   takenText r ws               the text of the chunks not refused        follow/specs/Claims
+--   taken_text r ws              the text of the chunks not refused        follow/specs/Claims
 --   Continued a v                some text continues v to an accepted one  live/specs/Continued
 --   AcceptsIn, CanEnd            the same from any set                     live/specs/Continued
 --   One, LostAt                  what a call answers from any set          follow/specs/Claims
---   Cut; Refused-exactly         a chunk cut in two; number by number      follow/specs/Claims
+--   Cut; RefusedExactly          a chunk cut in two; number by number      follow/specs/Claims
 --   cases, Answered              chunks worked by hand                     follow/specs/Worked
---   prepareOf r, followByOf f m w, noFollower   a rule that is checked once   follow/specs/Following
---   chunkNumber k w              12, 13                                    chunks/specs/Taking
+--   prepare_of r, follow_by_of f m w, no_follower  a rule that is checked once   follow/specs/Following
+--   chunk_number k w             12, 13                                    chunks/specs/Taking
 --   Accepts, Run; Text           automata and their runs (000)             automaton/specs/Automaton
 --   Reached a m w p              some member of m has a run over w to p    automaton/specs/Successor
 --   Live a q                     some text is accepted from state q        delegates/specs/Alike
---   WellFormed r; ruleNumber r   3, 4, 6, 8 of a rule as a value (R-3)     automaton/specs/Rules, rulecheck/specs/Checking
+--   WellFormed r; rule_number r  3, 4, 6, 8 of a rule as a value (R-3)     automaton/specs/Rules, rulecheck/specs/Checking
 --   text_of w                     a chunk without its idle marks            marks/specs/Marks
 --   Filled h r ws                a filled board with the chunks ws         fillings/specs/Filled
---   verdictIn h, answer_of        what 01 says of a list of calls           histories/specs/History
+--   verdict_in h, answer_of       what 01 says of a list of calls           histories/specs/History
 --   MayFollowC, MayPrepareC, MayFollowByC   what the contracts of C's functions allow   requests/specs/FollowFunctions
---   followShown, prepareShown    C's numbers                               c_follow/specs/Numbers
+--   follow_shown, prepare_shown  C's numbers                               c_follow/specs/Numbers
 --
 -- r is any value, in which any numbers may stand, m any set, and a chunk any bytes. How the mask of live
 -- states is found (live/specs/Live) need not be believed, nor how a walk goes fast (follow/specs/mirror/Cache).
@@ -248,7 +248,7 @@ pub prepared : (r : Rule) → (prepare_of r).refusal ≡ none → (m : ℕ) (w :
 prepared r = ((follow.claims).prepared r).same
 
 -- By a follower that no accepted preparing answered the call ends within its bounds and asks nothing;
--- its answer is free, and is named by followByOf. It is refused with 12 and 13 by the follower's k.
+-- its answer is free, and is named by follow_by_of. It is refused with 12 and 13 by the follower's k.
 pub by_any_follower : (f : Follower) (m : ℕ) (w : List ℕ) → (follow_by_of f m w).refusal ≡ chunk_number f.rule.k w
 by_any_follower = (follow.claims).by_any
 

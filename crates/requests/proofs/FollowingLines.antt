@@ -3,17 +3,17 @@
 -- Following. To believe them, read the definitions that they name:
 --
 --   Call, Reply                  the calls, and what they are answered     followcalls/specs/Calls
---   ruleIn h; LastBegun          the rule that is there; the last one, by the list cut in two   followcalls/specs/Histories
---   chunks_in h; rightReply h c   the chunks since; the right reply         followcalls/specs/Histories
---   replyOf s c, followMachine   what the code's contracts cite            followcalls/specs/Calls
---   lineIn; SaysLine, line_of     what a line means; a call's line          followlines/specs/Lines, Claims
---   replyText; Written           replies as text; each kind by hand        followlines/specs/Answers, Worked
---   rightText                    the right answers to lines                followstream/specs/Texts
---   callsText, callsAnswers      a text by hand, in bytes                  followstream/specs/Worked
---   takenText r ws; followNumber r w   the text of the chunks not refused; 12, 13   follow/specs/Claims, Following
+--   rule_in h; LastBegun         the rule that is there; the last one, by the list cut in two   followcalls/specs/Histories
+--   chunks_in h; right_reply h c  the chunks since; the right reply         followcalls/specs/Histories
+--   reply_of s c, follow_machine  what the code's contracts cite            followcalls/specs/Calls
+--   line_in; SaysLine, line_of    what a line means; a call's line          followlines/specs/Lines, Claims
+--   reply_text; Written          replies as text; each kind by hand        followlines/specs/Answers, Worked
+--   right_text                   the right answers to lines                followstream/specs/Texts
+--   calls_text, calls_answers    a text by hand, in bytes                  followstream/specs/Worked
+--   taken_text r ws; follow_number r w  the text of the chunks not refused; 12, 13   follow/specs/Claims, Following
 --   Accepts; Continued a v       an accepting run; some text continues v to an accepted one   automaton/specs/Automaton, live/specs/Continued
 --   Blocks                       a text that comes in blocks               linetexts/specs/Claims
---   listText; list_of, skippedLines   lists that a malformed line ends      linetexts/specs/Lists
+--   list_text; list_of, skipped_lines  lists that a malformed line ends      linetexts/specs/Lists
 --
 -- A file and a chunk are any bytes. A proved function ends and stays within its bounds. Assumes nothing.
 -- All that they rest on stands in these files of specs/ (tests/believed):

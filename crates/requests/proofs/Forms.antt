@@ -3,28 +3,28 @@
 -- definitions that they name:
 --
 --   Form, Table                   the form and the table as values         forms/src/lib.rt
---   cell, equalCells              a cell; in how many symbols two sets agree   forms/specs/Form
---   failureOf, keptMask, form_of   the failure set, the mask, the form      forms/specs/Form
+--   cell, equal_cells             a cell; in how many symbols two sets agree   forms/specs/Form
+--   failure_of, kept_mask, form_of  the failure set, the mask, the form      forms/specs/Form
 --   differences, bits             where two sets differ; bits of a mask    forms/specs/Claims
---   rank, keptCount               where a kept cell stands; how many       forms/specs/Back
---   backNumber, table_of, backOf   what the way back answers                forms/specs/Back
---   noTable                       zeros                                    forms/specs/Back
+--   rank, kept_count              where a kept cell stands; how many       forms/specs/Back
+--   back_number, table_of, back_of  what the way back answers                forms/specs/Back
+--   no_table                      zeros                                    forms/specs/Back
 --   IsTable, Wrong, Alike         a table; the five reasons; what is read  forms/specs/Claims
---   made_of j, noForm              the form of a judge's table; zeros       formmaker/specs/Making
---   ruleThere h, judgeAfter h     after a list of calls                    histories/specs/History, Claims
---   tableIn j                     the judge's table with its numbers       formtrip/specs/Claims
---   builtOf r, has, _∈_           the built rule; a bit of a mask          build/specs/mirror/Building, masks/specs/Masks
+--   made_of j, no_form             the form of a judge's table; zeros       formmaker/specs/Making
+--   rule_there h, judge_after h   after a list of calls                    histories/specs/History, Claims
+--   table_in j                    the judge's table with its numbers       formtrip/specs/Claims
+--   built_of r, has, ◌∈◌          the built rule; a bit of a mask          build/specs/mirror/Building, masks/specs/Masks
 --   MayForm .. MayTableC          what the functions' contracts allow      requests/specs/FormFunctions
---   formShown, tableShown         C's numbers                              c_form/specs/Numbers
---   formFor f, textFor f          of a rule file, and as `ruleform` prints it   formfile/specs/Files, formtext/specs/FormText
---   lineIn w, backText b          a line of `formtable`, and the answer    formline/specs/Lines, tabletext/specs/Answers
+--   form_shown, table_shown       C's numbers                              c_form/specs/Numbers
+--   form_for f, text_for f        of a rule file, and as `ruleform` prints it   formfile/specs/Files, formtext/specs/FormText
+--   line_in w, back_text b        a line of `formtable`, and the answer    formline/specs/Lines, tabletext/specs/Answers
 --   held_of; Fits f, line_of f      what is read of it; the line of a form   formline/specs/Lines, Claims
---   WorkedLine, formA             a line by hand, and its form             formline/specs/Worked
---   linesA; tableA                texts by hand, in bytes                  formtext/specs/Worked, tabletext/specs/Worked
---   answerTo w, formLines         its answer, and the machine              formstream/specs/Texts
---   answersTo; lineState          the answers to lines; where a text begins   linetexts/specs/Alone
---   parts_of, linesEnded, lineBegun   the parts of a text, and their lines  linetexts/specs/Parts
---   streamOf; FedBlocks           blocks and the end; through functions    linetexts/specs/Claims, Functions
+--   WorkedLine, form_A            a line by hand, and its form             formline/specs/Worked
+--   lines_A; table_A              texts by hand, in bytes                  formtext/specs/Worked, tabletext/specs/Worked
+--   answer_to w, form_lines       its answer, and the machine              formstream/specs/Texts
+--   answers_to; line_state        the answers to lines; where a text begins   linetexts/specs/Alone
+--   parts_of, lines_ended, line_begun  the parts of a text, and their lines  linetexts/specs/Parts
+--   stream_of; FedBlocks          blocks and the end; through functions    linetexts/specs/Claims, Functions
 --
 -- l is any list of cells, f and g any value of the form, in which any numbers may stand. A list of calls
 -- has the last call first. A proved function ends and stays within its bounds. Assumes nothing.

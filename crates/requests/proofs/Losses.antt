@@ -2,26 +2,26 @@
 -- only cites the file that has it. To believe them, read the definitions that they name:
 --
 --   Continued a w                some text can follow w so that a accepts    live/specs/Continued
---   textUpTo h m                 the text of the first m places              losses/specs/Losses
+--   text_up_to h m               the text of the first m places              losses/specs/Losses
 --   Lost h p, Open h m           lost at place p; open with m places         losses/specs/Losses
 --   Diagnosed h f                the finding f is the list's                 losses/specs/Losses
 --   AllElsewhere p cs            calls that leave rule, board and the        losses/specs/Losses
 --                                places 0 .. p alone
 --   AcceptsNothing h             the rule accepts no text                    losses/specs/Losses
---   textWith, StuckAfter,        the first bytes of a chunk; lost after b    losses/specs/Spots
+--   text_with, StuckAfter,       the first bytes of a chunk; lost after b    losses/specs/Spots
 --   Spotted h p w s              of them; s is the list's
---   Refused-so h p w             number by number                            losses/specs/Spots
---   locateConditions             21, 11, 12, 13, 23                          locating/specs/Locating
+--   RefusedSo h p w              number by number                            losses/specs/Spots
+--   locate_conditions            21, 11, 12, 13, 23                          locating/specs/Locating
 --   Finding, Spot                what is answered                            diagnoses/specs/Diagnosing,
 --                                                                            locating/specs/Locating
---   textOf w, idleMark           a chunk without its idle marks (R-5)        marks/specs/Marks
---   ruleIn h, standing h p, ..   what 01 says of a list of calls             histories/specs/History
+--   text_of w, idle_mark         a chunk without its idle marks (R-5)        marks/specs/Marks
+--   rule_in h, standing h p, ..  what 01 says of a list of calls             histories/specs/History
 --   Accepts                      automata and their runs (000)               automaton/specs/Automaton
 --   MayDiagnose, MayLocate       what the functions' contracts allow         losses/specs/Functions
 --   MayDiagnoseC, MayLocateC     the same of those that C links              requests/specs/LossFunctions
---   diagnosisShown, spotShown    C's numbers                                 c_losses/specs/Numbers
+--   diagnosis_shown, spot_shown  C's numbers                                 c_losses/specs/Numbers
 --
--- h is any list of calls, the last one first. diagnosisOf and spot_of, what the code does on any state,
+-- h is any list of calls, the last one first. diagnosis_of and spot_of, what the code does on any state,
 -- need not be believed: `diagnosed` and `spotted` say that after every list they are the words', and
 -- no other answer is. A proved function ends and stays within its bounds. Assumes nothing.
 -- All that they rest on stands in these files of specs/ (tests/believed):

@@ -2,16 +2,16 @@
 -- the theorem that meets it; its proof only cites the file that has it. To believe them, read the
 -- definitions that they name:
 --
---   nextValue x, madeText k x n    the values, and the text                madetexts/specs/Values
---   madeNumber, bufferAfter        what is answered, and the lent buffer   madetexts/specs/Making
+--   next_value x, made_text k x n  the values, and the text                madetexts/specs/Values
+--   made_number, buffer_after      what is answered, and the lent buffer   madetexts/specs/Making
 --   Text k w                       each symbol of w is below k             automaton/specs/Automaton
 --   text_of; foreign w k            a chunk without idle marks; 13          marks/specs/Marks, chunks/specs/Chunks
---   AsksText, MayMake, madeShown   the function for C, and its numbers     requests/specs/TextFunction, c_texts/specs/Numbers
---   lineIn w, answerTo w           a line of `maketext`, and its answer    maketextlines/specs/Lines, Answers
---   SaysText; sixLine, sixAnswer   three numbers; a line by hand           maketextlines/specs/Claims, Worked
---   textLines                      the machine that answers lines          maketextstream/specs/Texts
---   Blocks; finishOf               what is written for blocks, and at the end   linetexts/specs/Claims, Feeding
---   answersTo; lineState           the answers to lines; where a text begins   linetexts/specs/Alone
+--   AsksText, MayMake, made_shown  the function for C, and its numbers     requests/specs/TextFunction, c_texts/specs/Numbers
+--   line_in w, answer_to w         a line of `maketext`, and its answer    maketextlines/specs/Lines, Answers
+--   SaysText; six_line, six_answer  three numbers; a line by hand           maketextlines/specs/Claims, Worked
+--   text_lines                     the machine that answers lines          maketextstream/specs/Texts
+--   Blocks; finish_of              what is written for blocks, and at the end   linetexts/specs/Claims, Feeding
+--   answers_to; line_state         the answers to lines; where a text begins   linetexts/specs/Alone
 --   lines_of w                      the lines of a text                     lines/specs/Splitting
 --
 -- k, the seed and the buffer are any numbers and any bytes. A proved function ends and stays within its

@@ -3,30 +3,30 @@
 --
 --   Value, Within, compose, identity  mappings as eight masks; 000's f • g   mappings/specs/Mappings
 --   Bracketed, value_of, leaves        mappings composed in any brackets      compositions/specs/Bracketing
---   mappingOf, mappingAfter r w       the mapping of the text w              mappings/specs/Mappings, Claims
+--   mapping_of, mapping_after r w     the mapping of the text w              mappings/specs/Mappings, Claims
 --   First, Sooner                     the first text; the order of texts     mappings/specs/Claims, numbering/specs/Texts
---   profileOf r, buildOf r            a profile, every field; what building answers   profile/specs/Profiles
---   keysUpTo                          the procedure that numbers              numbering/specs/Numbering
---   run_of p w, verdictOf p f          a run of a chunk, and the verdict      profile/specs/Runs
+--   profile_of r, build_of r          a profile, every field; what building answers   profile/specs/Profiles
+--   keys_up_to                        the procedure that numbers              numbering/specs/Numbering
+--   run_of p w, verdict_of p f         a run of a chunk, and the verdict      profile/specs/Runs
 --   Takes, Machine, ManyMappings,     building accepts; the simultaneous automaton; over 512
---   Refused-exactly, Runs-exactly     mappings; the numbers, one by one      profile/specs/Claims
+--   RefusedExactly, RunsExactly       mappings; the numbers, one by one      profile/specs/Claims
 --   AllZero; Answered cases           zeros; rules built by hand            profile/specs/Claims, Worked
 --   text_of; ForeignByte               a chunk without idle marks; 13         marks/specs/Marks, calls/specs/Claims
---   Accepts, Run; automatonOf r       automata and their runs (000)          automaton/specs/Automaton, Rules
+--   Accepts, Run; automaton_of r      automata and their runs (000)          automaton/specs/Automaton, Rules
 --   Filled h r ws                     a filled board with the chunks ws      fillings/specs/Filled
---   verdictIn h, answer_of             what 01 says of a list of calls        histories/specs/History
+--   verdict_in h, answer_of            what 01 says of a list of calls        histories/specs/History
 --   MayBuild .. MaySay, RunEach,      what the contracts of C's functions    requests/specs/MappingFunctions
 --   ComposedTo, SameAnswer; MayJudge  allow                                  demands/specs/Functions
---   buildShown, runShown ..           C's numbers                            c_mappings/specs/Numbers
---   textFor f                         what `profileprint` prints             profiletext/specs/ProfileText
---   rightText; lastBuilt              the answers to lines; what is built    mapstream/specs/Texts, mapcalls/specs/Histories
+--   build_shown, run_shown ..         C's numbers                            c_mappings/specs/Numbers
+--   text_for f                        what `profileprint` prints             profiletext/specs/ProfileText
+--   right_text; last_built            the answers to lines; what is built    mapstream/specs/Texts, mapcalls/specs/Histories
 --   LastBuilt                         the last build, by the list cut in two   mapcalls/specs/Last
---   lineIn, replyText                 lines and replies as text              maplines/specs/Lines, mapreplies/specs/Replies
+--   line_in, reply_text               lines and replies as text              maplines/specs/Lines, mapreplies/specs/Replies
 --   SaysLine, line_of; SaysMapping     a call's line; a mapping's field       maplines/specs/Claims, maptext/specs/Claims
---   mappingText f; threeStates        a mapping as text; one by hand         maptext/specs/MappingText, Worked
---   linesA; callsText, callsAnswers   texts by hand, in bytes                profiletext/specs/Worked, mapstream/specs/Worked
+--   mapping_text f; three_states      a mapping as text; one by hand         maptext/specs/MappingText, Worked
+--   lines_A; calls_text, calls_answers  texts by hand, in bytes                profiletext/specs/Worked, mapstream/specs/Worked
 --   Blocks                            a text that comes in blocks            linetexts/specs/Claims
---   listText; list_of, skippedLines    lists that a malformed line ends       linetexts/specs/Lists
+--   list_text; list_of, skipped_lines  lists that a malformed line ends       linetexts/specs/Lists
 --
 -- r is any value, in which any numbers may stand, and so is a mapping. A proved function ends and
 -- stays within its bounds. Assumes nothing.

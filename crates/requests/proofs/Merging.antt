@@ -2,27 +2,27 @@
 -- proof only cites the file that has it. To believe them, read the definitions that they name:
 --
 --   Way                         both, either, interleaving              merging/src/lib.rt
---   mergeOf way one two         what merging two values answers         merging/specs/Merging
---   mergeConditions way ..      the numbers, in order                   merging/specs/Merging
---   ruleConditions r            3, 4, 6, 8 of a rule as a value (R-3)   rulecheck/specs/Checking
+--   merge_of way one two        what merging two values answers         merging/specs/Merging
+--   merge_conditions way ..     the numbers, in order                   merging/specs/Merging
+--   rule_conditions r           3, 4, 6, 8 of a rule as a value (R-3)   rulecheck/specs/Checking
 --   NoneHolds, FirstHolds       no condition; the first that holds      base/specs/Conditions
---   mergedOf way one two        the value, number by number             merging/specs/Merged
+--   merged_of way one two       the value, number by number             merging/specs/Merged
 --   InPairs, SideBySide         pairs and states, in words              products/specs/Words
 --   MadeBy, Merges              each way's states, and its texts        merging/specs/Languages
 --   Interleaving u v w          w is an interleaving of u and v         products/specs/Interleavings
 --   TwoRuns way .., Woven       two runs along one text                 products/specs/Claims
 --   Accepts, Run, Arc           automata and their runs (000)           automaton/specs/Automaton
---   automatonOf r, automatonIn f  of a rule, and of a file's bytes      automaton/specs/Rules, ruleformat/specs/Language
---   MergeLaw, Refused-exactly   all of the call; number by number       merging/specs/Claims
+--   automaton_of r, automaton_in f  of a rule, and of a file's bytes      automaton/specs/Rules, ruleformat/specs/Language
+--   MergeLaw, RefusedExactly    all of the call; number by number       merging/specs/Claims
 --   MayMerge, MayMergeC         what the functions' contracts allow     requests/specs/MergeFunction
---   way_of x, mergeShown         C's numbers                             merging/specs/Merging, c_merge/specs/Numbers
---   answerTo, mergeLines        a line of `rulemerge`, and the machine  mergestream/specs/Texts
---   FedBlocks; answersTo        blocks through functions; the answers   linetexts/specs/Functions, Alone
+--   way_of x, merge_shown        C's numbers                             merging/specs/Merging, c_merge/specs/Numbers
+--   answer_to, merge_lines      a line of `rulemerge`, and the machine  mergestream/specs/Texts
+--   FedBlocks; answers_to       blocks through functions; the answers   linetexts/specs/Functions, Alone
 --   WorkedLines, Written        a line for each word, and answers, by hand   mergetext/specs/Worked
---   lineIn l; SaysMerge, SaysLine   what a line means; a line of files  mergetext/specs/Lines, Claims
---   comparedFiles, reducedFile  what comparing and reducing files is answered   mergetext/specs/Answers
---   compareOf; reduceOf         two rules compared; a rule reduced      compare/specs/Search, reducing/specs/Reducing
---   verdictIn h, textIn h       what 01 says of a list of calls         histories/specs/History
+--   line_in l; SaysMerge, SaysLine  what a line means; a line of files  mergetext/specs/Lines, Claims
+--   compared_files, reduced_file  what comparing and reducing files is answered   mergetext/specs/Answers
+--   compare_of; reduce_of       two rules compared; a rule reduced      compare/specs/Search, reducing/specs/Reducing
+--   verdict_in h, text_in h     what 01 says of a list of calls         histories/specs/History
 --
 -- one and two are any values, in which any numbers may stand. A proved function ends and stays within
 -- its bounds. Assumes nothing.

@@ -2,33 +2,33 @@
 -- its proof only cites the file that has it. To believe them, read the definitions that they name:
 --
 --   Way                         both, either, interleaving          merging/src/lib.rt
---   mergeReducedOf way one two  what merging two values answers     mergereduce/specs/MergeReduced
---   mergeReducedConditions ..   the numbers, in order               mergereduce/specs/MergeReduced
---   reducedOrOwn r              what stands for the rule r          mergereduce/specs/MergeReduced
---   keptPairs, pairCount        the pairs that stay, and how many   mergereduce/specs/MergeReduced
+--   merge_reduced_of way one two  what merging two values answers     mergereduce/specs/MergeReduced
+--   merge_reduced_conditions ..  the numbers, in order               mergereduce/specs/MergeReduced
+--   reduced_or_own r            what stands for the rule r          mergereduce/specs/MergeReduced
+--   kept_pairs, pair_count      the pairs that stay, and how many   mergereduce/specs/MergeReduced
 --   rank m q                    how many members of m are below q   masks/specs/Turns
---   trimmedPairs way one two    the rule of the pairs that stay     mergereduce/specs/MergeReduced
+--   trimmed_pairs way one two   the rule of the pairs that stay     mergereduce/specs/MergeReduced
 --   Counted a p                 p is reachable and live             mergereduce/specs/Claims
 --   InOrder, MadeOf             the states so counted, and a rule   mergereduce/specs/Claims
 --                               made of them, in words
---   emptyRule k                 one state, and all masks 0          reducing/specs/Claims
---   Refused-exactly, Mergeable  number by number                    mergereduce/specs/Claims
---   mergedReduced, Answered     rules merged by hand                mergereduce/specs/Worked
---   reduceOf r                  a rule reduced                      reducing/specs/Reducing
+--   empty_rule k                one state, and all masks 0          reducing/specs/Claims
+--   RefusedExactly, Mergeable   number by number                    mergereduce/specs/Claims
+--   merged_reduced, Answered    rules merged by hand                mergereduce/specs/Worked
+--   reduce_of r                 a rule reduced                      reducing/specs/Reducing
 --   Lean r                      reached, live, no two states alike  reducing/specs/Claims
---   mergeOf way one two         merging alone (R-10)                merging/specs/Merging
---   mergedBy, Merges            each way's states, and its texts    merging/specs/Languages
+--   merge_of way one two        merging alone (R-10)                merging/specs/Merging
+--   merged_by, Merges           each way's states, and its texts    merging/specs/Languages
 --   Interleaved a b w           an interleaving of one from each    products/specs/Claims
---   ruleConditions r            3, 4, 6, 8 of a rule (R-3)          rulecheck/specs/Checking
+--   rule_conditions r           3, 4, 6, 8 of a rule (R-3)          rulecheck/specs/Checking
 --   NoneHolds, FirstHolds       no condition; the first that holds  base/specs/Conditions
 --   AllZero r                   every number of it is 0             ruleformat/specs/Claims
 --   Accepts                     automata and their texts (000)      automaton/specs/Automaton
 --   Live                        of states (R-7)                     delegates/specs/Alike
---   automatonOf r               of a rule                           automaton/specs/Rules
+--   automaton_of r              of a rule                           automaton/specs/Rules
 --   MayMergeReduced, .. C       what the contracts allow            specs/MergeReducedFunction
 --   way_of x                     the way of C's number               merging/specs/Merging
---   mergeShown                  C's numbers                         c_merge/specs/Numbers
---   verdictIn h, textIn h       what 01 says of a list of calls     histories/specs/History
+--   merge_shown                 C's numbers                         c_merge/specs/Numbers
+--   verdict_in h, text_in h     what 01 says of a list of calls     histories/specs/History
 --
 -- All that they rest on stands in these files of specs/ (tests/believed):
 --   base Answers, Conditions, Lists, Options, Totals; limits Limits; flags Flags; masks Masks,
@@ -171,7 +171,7 @@ lean w one two = (merging_law w one two).lean
 
 -- ---- THE NUMBERS
 -- "refused with 3, 4, 6, 8 of the first, then of the second, 36, 37", and 37 by the pairs that are
--- kept alone (pairCount). Accepted exactly when no condition holds, refused with a number exactly
+-- kept alone (pair_count). Accepted exactly when no condition holds, refused with a number exactly
 -- when that one is the first that holds:
 pub accepted : (w : Way) (one two : Rule) → ((merge_reduced_of w one two).number ≡ none) ↔ NoneHolds (merge_reduced_conditions w one two)
 accepted w one two = (merging_law w one two).accepted

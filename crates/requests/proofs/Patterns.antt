@@ -3,22 +3,22 @@
 --
 --   Pattern, Matches p w        patterns as trees, and their texts      patterns/specs/Patterns
 --   StandsFor p b               the bytes b are the pattern p           patterns/specs/Grammar
---   positionRule p              the rule of the positions               patterns/specs/Positions
+--   position_rule p             the rule of the positions               patterns/specs/Positions
 --   Begins, Ends, Comes         positions by the marked pattern         patterns/specs/Marked
 --   Letter p i s                the i-th letter from the left is s      patterns/specs/Claims
 --   AllZero o                   length 0, and every byte 0              patternfile/specs/Claims
---   patternNumber, patternOf b  what reading the bytes b answers        patternfile/specs/Answers
---   Refused-exactly b           which number, in words                  patternfile/specs/Claims
---   Accepted-for p b, States    what is answered, for the pattern p     patternfile/specs/Claims
+--   pattern_number, pattern_of b  what reading the bytes b answers        patternfile/specs/Answers
+--   RefusedExactly b            which number, in words                  patternfile/specs/Claims
+--   AcceptedFor p b, States     what is answered, for the pattern p     patternfile/specs/Claims
 --   Answered patterns           patterns worked by hand                 patternfile/specs/Worked
---   fileOf r; padded            the file of a rule; zeros after it      ruleformat/specs/Writing, rulewriter/specs/Written
---   read_of f, automatonIn f     reading a file; its automaton           ruleformat/specs/Reader, Language
---   MayPattern, patternShown    the function for C, and its numbers     requests/specs/PatternFunction, c_patterns/specs/Numbers
---   answerText, patternLines    the answer to a line, and the machine   patterntext/specs/Answers, Texts
---   Blocks; finishOf            what is written, and at the end         linetexts/specs/Claims, Feeding
---   answersTo; lineState        the answers; where a text begins        linetexts/specs/Alone
---   twoLines, twoAnswers        lines by hand                           patterntext/specs/Worked
---   verdictIn h, textIn h       what 01 says of a list of calls         histories/specs/History
+--   file_of r; padded           the file of a rule; zeros after it      ruleformat/specs/Writing, rulewriter/specs/Written
+--   read_of f, automaton_in f    reading a file; its automaton           ruleformat/specs/Reader, Language
+--   MayPattern, pattern_shown   the function for C, and its numbers     requests/specs/PatternFunction, c_patterns/specs/Numbers
+--   answer_text, pattern_lines  the answer to a line, and the machine   patterntext/specs/Answers, Texts
+--   Blocks; finish_of           what is written, and at the end         linetexts/specs/Claims, Feeding
+--   answers_to; line_state      the answers; where a text begins        linetexts/specs/Alone
+--   two_lines, two_answers      lines by hand                           patterntext/specs/Worked
+--   verdict_in h, text_in h     what 01 says of a list of calls         histories/specs/History
 --
 -- b is any list of bytes, p any pattern. A proved function ends and stays within its bounds. Assumes
 -- nothing.

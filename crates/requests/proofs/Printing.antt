@@ -2,14 +2,14 @@
 -- R-7 for the delegates), sentence by sentence. Under each stands the theorem that meets it; its
 -- proof only cites the file that has it. To believe them, read the definitions that they name:
 --
---   textFor f        the text for the rule file f             ruletext/specs/Printing
---   ruleText b       of a built rule                          ruletext/specs/RuleText
---   delegateText o   a state's delegate                       ruletext/specs/RuleText
---   refusedText x    `refused` and the number                 answers/specs/Answers
---   listingA         document 01's listing of rule A          requests/proofs/Listing
+--   text_for f       the text for the rule file f             ruletext/specs/Printing
+--   rule_text b      of a built rule                          ruletext/specs/RuleText
+--   delegate_text o  a state's delegate                       ruletext/specs/RuleText
+--   refused_text x   `refused` and the number                 answers/specs/Answers
+--   listing_A        document 01's listing of rule A          requests/proofs/Listing
 --   SamePrinted b c  all that is printed is the same          ruletext/specs/Claims
---   builtOf r        the built rule                           build/specs/mirror/Building
---   loadNumber f     the number with which a load is refused  calls/specs/Calls
+--   built_of r       the built rule                           build/specs/mirror/Building
+--   load_number f    the number with which a load is refused  calls/specs/Calls
 --
 -- f and g are any lists of bytes. Assumes nothing.
 -- All that they rest on stands in these files of specs/ (tests/believed):

@@ -1,23 +1,23 @@
 -- A RULE REDUCED, sentence by sentence. Under each stands the theorem that meets it; its proof only
 -- cites the file that has it. To believe them, read the definitions that they name:
 --
---   reduceOf r                 what reducing the value r answers           reducing/specs/Reducing
+--   reduce_of r                what reducing the value r answers           reducing/specs/Reducing
 --   Stands r q x               x is the lowest reachable state alike to q  reducing/specs/Claims
 --   Renumbered r n             what each number of n is, in words of r     reducing/specs/Claims
 --   Reachable, Lean, Nothing   of states, of rules, of automata            reducing/specs/Claims
 --   Becomes r n; Due r m       what r becomes; the answer that is due      reducing/specs/Claims
---   emptyRule k                one state, and all masks 0                  reducing/specs/Claims
---   reductions, Answered       rules reduced by hand, fewSets among them   reducing/specs/Worked
+--   empty_rule k               one state, and all masks 0                  reducing/specs/Claims
+--   reductions, Answered       rules reduced by hand, few_sets among them   reducing/specs/Worked
 --   Live, Alike                of states (R-7)                             delegates/specs/Alike
---   installNumber r            3, 4, 6, 8, 9 of an installation            calls/specs/Calls
---   ruleNumber r               3, 4, 6, 8 of a rule as a value (R-3)       rulecheck/specs/Checking
+--   install_number r           3, 4, 6, 8, 9 of an installation            calls/specs/Calls
+--   rule_number r              3, 4, 6, 8 of a rule as a value (R-3)       rulecheck/specs/Checking
 --   AllZero r                  every number of it is 0                     ruleformat/specs/Claims
 --   Accepts, Equivalent        automata and their texts (000)              automaton/specs/Automaton
---   automatonOf r, WellFormed  of a rule                                   automaton/specs/Rules
+--   automaton_of r, WellFormed  of a rule                                   automaton/specs/Rules
 --   MayReduce, MayReduceC      what the functions' contracts allow         requests/specs/ReduceFunction
---   reduceShown                C's numbers                                 c_reduce/specs/Numbers
+--   reduce_shown               C's numbers                                 c_reduce/specs/Numbers
 --   Filled h r ws              a filled board with the chunks ws           fillings/specs/Filled
---   verdictIn h, textIn h      what 01 says of a list of calls             histories/specs/History
+--   verdict_in h, text_in h    what 01 says of a list of calls             histories/specs/History
 --
 -- r is any value, in which any numbers may stand. How the reduced rule is found
 -- (reducing/specs/Reduced) need not be believed: `due` says that it is the answer of the words, and

@@ -4,22 +4,22 @@
 --   Wish                         accepted, rejected                      samples/src/lib.rt
 --   Due r wish a                 the answer that is due, in words        samples/specs/Samples
 --   Wished, First                a wished text; the first of them        samples/specs/Samples
---   setAfter r w, ManySets r     the set that a text leads to; 513 sets  samples/specs/Samples
+--   set_after r w, ManySets r    the set that a text leads to; 513 sets  samples/specs/Samples
 --   Answered cases               samples worked by hand                  samples/specs/Worked
 --   NoLater, Sooner, Lex         the order of texts                      numbering/specs/Texts
 --   Accepts, Run                 automata and their runs (000)           automaton/specs/Automaton
 --   Reached a m w p              some member of m has a run over w to p  automaton/specs/Successor
---   ruleNumber r, WellFormed     3, 4, 6, 8 of a rule as a value (R-3)   rulecheck/specs/Checking, automaton/specs/Rules
---   Carries a o; outcomeOf a     a value that carries the answer a       samples/specs/Values
---   sampleOf r wish              the answer that the code gives          samples/specs/Search
---   Refused-exactly              number by number                        samples/specs/Claims
+--   rule_number r, WellFormed    3, 4, 6, 8 of a rule as a value (R-3)   rulecheck/specs/Checking, automaton/specs/Rules
+--   Carries a o; outcome_of a    a value that carries the answer a       samples/specs/Values
+--   sample_of r wish             the answer that the code gives          samples/specs/Search
+--   RefusedExactly               number by number                        samples/specs/Claims
 --   MaySample, MaySampleC        what the functions' contracts allow     requests/specs/SampleFunctions
---   wishOf x, sampleShown        C's numbers                             c_samples/specs/Numbers
---   textFor f                    what `rulesample` prints                sampletext/specs/SampleText
+--   wish_of x, sample_shown      C's numbers                             c_samples/specs/Numbers
+--   text_for f                   what `rulesample` prints                sampletext/specs/SampleText
 --   WorkedSamples                printed lines by hand                   sampletext/specs/Worked
---   verdictIn h, textIn h        what 01 says of a list of calls         histories/specs/History
+--   verdict_in h, text_in h      what 01 says of a list of calls         histories/specs/History
 --
--- r is any value, in which any numbers may stand. What sampleOf does need not be believed: `due` says
+-- r is any value, in which any numbers may stand. What sample_of does need not be believed: `due` says
 -- that it is the answer of the words, and no other is. A proved function ends and stays within its
 -- bounds. Assumes nothing.
 -- All that they rest on stands in these files of specs/ (tests/believed):

@@ -1,21 +1,21 @@
 -- A JUDGE AS BYTES, AND BACK, sentence by sentence. Under each stands the theorem that meets it; its
 -- proof only cites the file that has it. To believe them, read the definitions that they name:
 --
---   savedOf j                   the judge j as bytes, 27,838 of them        saved_judge/specs/Saved
---   restoreOf b                 what restoring the bytes b answers          saved_judge/specs/Saved
---   restoreAccepted j           accepted, with the judge j                  saved_judge/specs/Saved
---   restoreRefused              46, with the fresh judge                    saved_judge/specs/Saved
---   digestStep h x              the digest h with the byte x behind it      saved_judge/specs/Digest
+--   saved_of j                  the judge j as bytes, 27,838 of them        saved_judge/specs/Saved
+--   restore_of b                what restoring the bytes b answers          saved_judge/specs/Saved
+--   restore_accepted j          accepted, with the judge j                  saved_judge/specs/Saved
+--   restore_refused             46, with the fresh judge                    saved_judge/specs/Saved
+--   digest_step h x             the digest h with the byte x behind it      saved_judge/specs/Digest
 --   Fits j                      the numbers of j are those that the type    saved_judge/specs/Claims
 --                               holds, as every value of the type has it
---   littleOf w x; half, word    a number in bytes; in those of a rule file  saved_judge/specs/Little,
+--   little_of w x; half, word   a number in bytes; in those of a rule file  saved_judge/specs/Little,
 --                                                                           ruleformat/specs/Writing
 --   cases, Saves                judges saved, and digests, by another       saved_judge/specs/Worked
 --                               program
 --   Bytes b, byte_at b i         each is below 256; one of them              ruleformat/specs/Writing
 --   MaySave, MayRestore, ..     what the functions' contracts allow         requests/specs/SaveFunctions
---   restoreShown                C's numbers                                 c_saved/specs/Numbers
---   Execution cLibrary h rs j   the calls h through C's functions           executions/specs/Executions
+--   restore_shown               C's numbers                                 c_saved/specs/Numbers
+--   Execution c_library h rs j  the calls h through C's functions           executions/specs/Executions
 --
 -- j is any judge whose numbers are those of the type, also one that no list of calls leaves; b is any
 -- list of bytes. A saved judge is no seal: the digest guards against mistakes, not against attackers.

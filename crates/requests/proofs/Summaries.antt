@@ -4,26 +4,26 @@
 -- they name:
 --
 --   Summary, combine a b       a summary; two of them combined     summaries/specs/Summaries
---   summarizeOf j number w     what the judge j answers to a chunk summaries/specs/Summaries
---   concludeOf j a chunks      the report                          summaries/specs/Summaries
---   Summarized-exactly,        number by number, on any judge      summaries/specs/Claims
---   Concluded-exactly
---   Joined, end_in, countsIn    a whole row of summaries; the sums  summaries/specs/Claims
+--   summarize_of j number w    what the judge j answers to a chunk summaries/specs/Summaries
+--   conclude_of j a chunks     the report                          summaries/specs/Summaries
+--   SummarizedExactly,         number by number, on any judge      summaries/specs/Claims
+--   ConcludedExactly
+--   Joined, end_in, counts_in   a whole row of summaries; the sums  summaries/specs/Claims
 --   Bracketed, leaves, value_of values in any brackets              compositions/specs/Bracketing
---   digestOf b                 the digest of a built rule          digests/specs/Digests
---   judgeOf r, summaryAt,      a rule's summaries of numbered      summaryverdict/specs/Traces
---   summariesFrom, ..          chunks
+--   digest_of b                the digest of a built rule          digests/specs/Digests
+--   judge_of r, summary_at,    a rule's summaries of numbered      summaryverdict/specs/Traces
+--   summaries_from, ..         chunks
 --   Trace, Reports             a trace; its chunks' report         summaryverdict/specs/Traces
---   Numbered, madeBy, Used     whatever was combined, and used     summaryverdict/specs/Traces
---   summaryThere, ..           by the rule that a list leaves      summaryverdict/specs/Lists
+--   Numbered, made_by, Used    whatever was combined, and used     summaryverdict/specs/Traces
+--   summary_there, ..          by the rule that a list leaves      summaryverdict/specs/Lists
 --   MaySummarize, Gathered,    what the contracts allow, and what  summaryverdict/specs/Functions
 --   SummarizedOn               whoever uses the functions gets
 --   MaySummarizeC ..           the same of those that C links      requests/specs/SummaryFunctions
---   summaryShown, ..           C's numbers                         c_summaries/specs/Numbers
---   chunkNumber k w            12, 13                              chunks/specs/Taking
+--   summary_shown, ..          C's numbers                         c_summaries/specs/Numbers
+--   chunk_number k w           12, 13                              chunks/specs/Taking
 --   Filled h r ws              a board filled with the chunks ws   fillings/specs/Filled
---   reportIn h, run_at r p      what 01 says of a list of calls     histories/specs/History
---   delegateSet, end_set        running a chunk (01)                chunks/specs/Chunks
+--   report_in h, run_at r p     what 01 says of a list of calls     histories/specs/History
+--   delegate_set, end_set       running a chunk (01)                chunks/specs/Chunks
 --   Accepts                    automata and their runs (000)       automaton/specs/Automaton
 --
 -- A summary is any value, in which any numbers may stand, and a judge any state. The digest is a

@@ -1,6 +1,6 @@
 -- The answers to samples/tray.calls, by computation. Assumes nothing.
 --
---   two-starts      a rule of two live states that some text tells apart has two starts
+--   two_starts      a rule of two live states that some text tells apart has two starts
 --   Entry           a line, what it means, and the answer to it
 --   Right h es      each line is read so, and its answer is the right one after the calls h and those
 --                   of the lines before it

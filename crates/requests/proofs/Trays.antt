@@ -3,32 +3,32 @@
 --
 --   Call; Reply, Judgement        a tray's calls; what is answered to them  trays/specs/Calls, Replies
 --   step_of t c                    reply and state of a call on any state   trays/specs/mirror/Steps
---   rowsOf w n b, columnOf c rows rows out of bytes, and columns           trays/specs/Rows
+--   rows_of w n b, column_of c rows rows out of bytes, and columns         trays/specs/Rows
 --   AllAccepted                   every row and every column is accepted   trays/specs/Rows
---   rowThere h, columnThere h     the rules that a list of calls leaves    trayhistories/specs/History
---   boardThere h, width_in h, ..   its board; what stands at each band      trayhistories/specs/History
---   rows_at h p, rowsThere h       the rows of a standing band, of all       trayhistories/specs/History
---   rowsBelow at p                how many rows the bands below p have     trays/specs/Claims
---   verdictIn h, answer_of h c     the verdict; what is answered to a call  trayhistories/specs/History
+--   row_there h, column_there h   the rules that a list of calls leaves    trayhistories/specs/History
+--   board_there h, width_in h, ..  its board; what stands at each band      trayhistories/specs/History
+--   rows_at h p, rows_there h      the rows of a standing band, of all       trayhistories/specs/History
+--   rows_below at p               how many rows the bands below p have     trays/specs/Claims
+--   verdict_in h, answer_of h c    the verdict; what is answered to a call  trayhistories/specs/History
 --   Installation, WholeRows,      the numbers, one by one                  trayhistories/specs/Conditions
---   AtOrAbove, Accepted-exactly, Refused-exactly
+--   AtOrAbove, AcceptedExactly, RefusedExactly
 --   LastRow .. LastStanding       by the last accepted call of a kind      trayhistories/specs/Last
---   EmptyBands; numbersOf         the empty bands; the numbers of a call   trayhistories/specs
+--   EmptyBands; numbers_of        the empty bands; the numbers of a call   trayhistories/specs
 --   Changes, AnyOrder, Unchanged, what a call changes; the whole theorem   trayhistories/specs/Claims
 --   VerdictClauses, EveryList
---   trayLibrary, EveryRun         what the functions' contracts allow      trayhistories/specs/Functions
---   installRowOf, openOf, ..      the outcome of a call on any tray        trays/specs/mirror/Steps
---   installShown, callShown,      the numbers that C is given for it       c_trays/specs/Numbers
---   verdictShown
---   MayOpen, ..; trayLibraryOfC   what the functions for C allow           specs/TrayFunctions
---   Blocks; rightText             what is written for lines, and is right  linetexts/specs/Claims, traystream/specs/Texts
---   listText; list_of, skippedLines   lists that a malformed line ends      linetexts/specs/Lists
+--   tray_library, EveryRun        what the functions' contracts allow      trayhistories/specs/Functions
+--   install_row_of, open_of, ..   the outcome of a call on any tray        trays/specs/mirror/Steps
+--   install_shown, call_shown,    the numbers that C is given for it       c_trays/specs/Numbers
+--   verdict_shown
+--   MayOpen, ..; tray_library_of_C  what the functions for C allow           specs/TrayFunctions
+--   Blocks; right_text            what is written for lines, and is right  linetexts/specs/Claims, traystream/specs/Texts
+--   list_text; list_of, skipped_lines  lists that a malformed line ends      linetexts/specs/Lists
 --   Gathers; FedBlocks            a round; blocks through functions        linetexts/specs/Feeding, Functions
 --   MayGather, MayFinish          what their contracts allow               specs/TrayTexts
 --   SaysLine; SaysNumber, ..      which lines and fields say what          traytext/, fields/specs/Claims
---   sampleText, cutText ..        texts and their answers, byte by byte    traystream/specs/Worked
+--   sample_text, cut_text ..      texts and their answers, byte by byte    traystream/specs/Worked
 --   answers                       each kind of answer, byte by byte        traytext/specs/Worked
---   Accepts; automatonOf r        automata and their runs (000)            automaton/specs/Automaton, Rules
+--   Accepts; automaton_of r       automata and their runs (000)            automaton/specs/Automaton, Rules
 --
 -- h is any list of calls, the last first. A proved function ends and stays within its bounds. Assumes
 -- nothing.

@@ -1,9 +1,9 @@
 -- The laws of the conditions of a rule: none holds exactly where the rule is well formed, and which
 -- number it has otherwise. Assumes nothing.
 --
---   masks-law, is-beyond    both masks are within the states; one is not
+--   masks_law, is_beyond    both masks are within the states; one is not
 --   passes                  no condition holds
---   from-4, from-6, from-8  the conditions from the one with that number on
+--   from_4, from_6, from_8  the conditions from the one with that number on
 --   refused                 which number the rule has
 use mathlib.Core.Path.{◌≡◌, refl, sym}
 use mathlib.Core.Logic.Iff

@@ -1,12 +1,12 @@
 -- The laws of condition 8: what a bad target mask is, by the kind of its cell and in words, and
 -- that no cell is bad exactly where every target mask is as in a well-formed rule. Assumes nothing.
 --
---   kept-cell, own-cell   the test of a mask that is kept for a state or symbol outside n or k, and
+--   kept_cell_lem, own_cell  the test of a mask that is kept for a state or symbol outside n or k, and
 --                         of any other
---   bad-law, good-law     what the test says, and what it says where it fails
---   cell-mask             a cell is the target mask of its state and symbol
---   targets-law           no cell is bad
---   stray-law             some cell is bad
+--   bad_law, good_law     what the test says, and what it says where it fails
+--   cell_mask             a cell is the target mask of its state and symbol
+--   targets_law           no cell is bad
+--   stray_law             some cell is bad
 use mathlib.Core.Path.{◌≡◌, refl, sym, ap, ap₂, ◌∙◌}
 use mathlib.Core.Logic.{◌↔◌, ◌⊎◌, inl, inr, ⊎_elim}
 use mathlib.Core.Bool.{Bool, true, false, not, ◌||◌, ◌&&◌}

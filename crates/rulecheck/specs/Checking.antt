@@ -2,16 +2,16 @@
 -- fields. Those of n, k and the two masks are the conditions 3, 4 and 6 of a rule file too, of the
 -- numbers that stand in it. The number of cells is the type's and no condition.
 --
---   badStateCount n     3: n outside 1 to 32
---   badSymbolCount k    4: k outside 1 to 16
+--   bad_state_count n   3: n outside 1 to 32
+--   bad_symbol_count k  4: k outside 1 to 16
 --   beyond n m          the mask m has a bit at n or above, that is, it is not below 2 ^ n
---   badMasks n i f      6: a mask with a bit at n or above
---   badTarget .. m      the target mask m of state q and symbol s has a bit at n or above, or it is
+--   bad_masks n i f     6: a mask with a bit at n or above
+--   bad_target .. m     the target mask m of state q and symbol s has a bit at n or above, or it is
 --                       kept for a state or symbol outside n or k and is not 0
---   badCell n k ts c    the mask in cell c of the table is bad
---   badTargets n k ts   8: some target mask is bad
---   ruleConditions r    the conditions of the rule, in order
---   ruleNumber r        the number of the first that holds, none where the rule is well formed
+--   bad_cell n k ts c   the mask in cell c of the table is bad
+--   bad_targets n k ts  8: some target mask is bad
+--   rule_conditions r   the conditions of the rule, in order
+--   rule_number r       the number of the first that holds, none where the rule is well formed
 use Rattle.std.specs.Prelude.{Bool, ◌&&◌, ◌||◌, not, List, [], ◌∷◌, ℕ, ◌/◌, ◌%◌, ◌^◌, leb, eqb, get_or}
 use Rattle.std.proofs.Math.Option.{Option}
 use Rattle.base.specs.Conditions.{Condition, on, first_of, outside, any_below}

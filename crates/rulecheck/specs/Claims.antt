@@ -3,7 +3,7 @@
 --
 --   Stray r             a target mask is bad: that of a state and a symbol of the table
 --   StatesIn, SymbolsIn, MasksIn   n is 1 to 32, k is 1 to 16, both masks are below 2 ^ n
---   Refused-exactly r   which number the rule has, condition by condition
+--   RefusedExactly r    which number the rule has, condition by condition
 use Rattle.std.specs.Prelude.{◌≡◌, ◌↔◌, ◌⊎◌, ℕ, ◌^◌, ◌≤◌, ◌<◌}
 use Rattle.std.proofs.Math.Option.{none, some}
 use Rattle.limits.specs.Limits.{most_states, most_symbols}

@@ -2,8 +2,8 @@
 -- rule is as near to one that passes as can be. proofs/Examples.antt proves the claim.
 --
 --   rule n k i f ts   the rule with these fields
---   noTargets         a table without arcs
---   ruleA, targetsA   rule A of document 01, "Two rules by hand", and its table
+--   no_targets        a table without arcs
+--   rule_A, targets_A  rule A of document 01, "Two rules by hand", and its table
 --   case r number     the rule r and its number, none where it passes
 --   rules             the list
 --   Answered cases    each rule has the number beside it

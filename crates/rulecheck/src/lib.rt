@@ -1,4 +1,6 @@
 // Checking a rule that is handed in as a value: any numbers may stand in its fields.
+#![tactic(auto)]
+
 ghost use Rattle.std.specs.Prelude.{◌≡◌};
 ghost use Rattle.base.specs.Answers.{answer_number};
 ghost use Rattle.base.specs.Conditions.{outside as outsideOf};

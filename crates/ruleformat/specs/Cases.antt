@@ -1,7 +1,7 @@
 -- Rule files worked by hand, at the edges of what is read: one list, and one claim over it. A
 -- refused file is as near to an accepted one as can be. proofs/Cases.antt proves the claim.
 --
---   noArcs n k      the file with n states, k symbols, both masks 0 and no arcs
+--   no_arcs n k     the file with n states, k symbols, both masks 0 and no arcs
 --   case f answer   the file f and its number, none where it is accepted
 --   files           the list
 --   Answered cases  each file has the answer beside it

@@ -5,12 +5,12 @@
 --   Bytes f                     each member of f is a byte, below 256 (past the end a byte reads 0)
 --   half x, word x              the number x in two bytes and in four, the lowest first
 --   header n k initials finals  the bytes 0 to 9
---   offsetIn n sections q       where the section of state q begins
+--   offset_in n sections q      where the section of state q begins
 --   pairs n sections            the offset and the length of the section of each state
---   fileWith .. sections        the file with this header and these sections
---   sectionOf n k masks         the section of a state whose target mask by symbol s is `masks s`:
+--   file_with .. sections       the file with this header and these sections
+--   section_of n k masks        the section of a state whose target mask by symbol s is `masks s`:
 --                               its arcs, by symbol and then target
---   fileOf r                    the rule file of the rule r
+--   file_of r                   the rule file of the rule r
 use Rattle.std.specs.Prelude.{cond, List, [], ◌∷◌, ◌++◌, ℕ, ◌+◌, ◌*◌, ◌/◌, ◌%◌, ◌<◌, length}
 use Rattle.base.specs.Lists.{joined}
 use Rattle.masks.specs.Masks.{has}

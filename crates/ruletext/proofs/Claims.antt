@@ -3,7 +3,7 @@
 -- nothing.
 --
 --   low           the number with which a file is refused
---   few-starts    M is at most the number of states
+--   few_starts    M is at most the number of states
 use mathlib.Core.Path.{◌≡◌, refl}
 use mathlib.Core.Logic.{⊎_elim}
 use mathlib.Core.Bool.{true}

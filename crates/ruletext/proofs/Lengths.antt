@@ -1,13 +1,13 @@
 -- How long the parts of the text are at most. Assumes nothing.
 --
---   number-most             3
---   index-most, mask-most   3 and 8
---   field-most, cell-most, delegate-most   4
---   row-most, cells-most    4 for each symbol, 64 for a row
---   line-most               77
+--   number_most             3
+--   index_most, mask_most   3 and 8
+--   field_most, cell_most, delegate_most   4
+--   row_most, cells_most    4 for each symbol, 64 for a row
+--   line_most               77
 --   fields-most, lines-most 4 for each state, 77 for each set
---   head-most, last-most    20 and 138
---   rule-most               39,582
+--   head_most, last_most    20 and 138
+--   rule_most               39,582
 use mathlib.Core.Path.{◌≡◌, refl}
 use mathlib.Core.List.{List, [], ◌∷◌, ◌++◌}
 use mathlib.Core.Option.{Option, none, some}

@@ -3,9 +3,9 @@
 -- have their fields in common from the left, and a field has one number. Assumes nothing.
 --
 --   split              two fields with what follows them
---   fields-same        the cells of a line, or the delegates: how many, and each
+--   fields_same        the cells of a line, or the delegates: how many, and each
 --   lines_same         the lines of the sets
---   decimal-one, hex-one, cell-one, bare-one   what has the same field is the same
+--   decimal_one, hex_one, cell_one, bare_one   what has the same field is the same
 --   determines         the law
 use mathlib.Core.Path.{◌≡◌, refl, sym, ap, ap₂, ◌∙◌}
 use mathlib.Core.Logic.{◌↔◌}

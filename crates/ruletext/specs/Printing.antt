@@ -1,8 +1,8 @@
 -- What is printed for a rule file.
 --
---   textFor f          the text for the rule file f: refused with the first number of 1 to 9 whose
+--   text_for f         the text for the rule file f: refused with the first number of 1 to 9 whose
 --                      condition holds, else the built rule's
---   mostBytes          so many bytes have room for the text of any file (specs/Claims.antt)
+--   most_bytes         so many bytes have room for the text of any file (specs/Claims.antt)
 use Rattle.std.specs.Prelude.{List, ℕ, ◌+◌, ◌*◌}
 use Rattle.std.proofs.Math.Option.{Option, none, some}
 use Rattle.limits.specs.Limits.{most_sets}

@@ -1,10 +1,10 @@
 -- What `ruleprint` prints (document 01, "Two rules by hand"), as byte values: fields with one space
 -- between them, each line ended by one line feed.
 --
---   ruleText b      the number of sets and M; a line for each set: its number, its mask in 8 hex
+--   rule_text b     the number of sets and M; a line for each set: its number, its mask in 8 hex
 --                   digits and, for each symbol, the number of the successor or - for the empty
 --                   set; and each state's delegate, or - where it has none (document 02, R-7)
---   refusedText x   `refused` and the number (crates/answers)
+--   refused_text x  `refused` and the number (crates/answers)
 --   text_of b        one or the other, by the answer of building
 use Rattle.std.specs.Prelude.{cond, List, [], ◌∷◌, ◌++◌, ℕ, ◌+◌, ◌*◌, min, ltb, get_or}
 use Rattle.std.proofs.Math.Option.{Option, none, some}

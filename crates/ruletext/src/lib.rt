@@ -1,4 +1,6 @@
 // Prints a built rule into a lent buffer.
+#![tactic(auto)]
+
 ghost use Rattle.std.specs.Prelude.{◌≡◌, ◌+◌, ◌*◌, ◌≤◌, ◌<◌, length};
 ghost use Rattle.limits.specs.Limits.{most_states, most_symbols, most_sets};
 ghost use Rattle.base.specs.Lists.{joined};

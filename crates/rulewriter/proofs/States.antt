@@ -6,7 +6,7 @@
 --   begin      of none of them
 --   room       the next section has its room
 --   place      its place and its size fit into two bytes each
---   pair-room  its pair has its room
+--   pair_room  its pair has its room
 --   more       one state more
 --   all        all of them
 use mathlib.Core.Path.{◌≡◌, refl, ap₂, ◌∙◌}

@@ -1,8 +1,8 @@
 -- A file by value: what was written into zeros, and zeros after it. Assumes nothing.
 --
---   padded-is    a piece that was written into zeros is padded by them
+--   padded_is    a piece that was written into zeros is padded by them
 --   room_for     a rule that passes has a file of at most 32,906 bytes
---   file-put     the header and then the states are the file
+--   file_put     the header and then the states are the file
 use mathlib.Core.Path.{◌≡◌, refl, ap, ◌∙◌}
 use mathlib.Core.List.{List, ◌++◌}
 use mathlib.Core.Option.{none}

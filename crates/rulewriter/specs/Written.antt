@@ -4,10 +4,10 @@
 --   padded room f       the bytes f and zeros after them, so many bytes in all
 --   Writing             the number of a refusal, or none; how many bytes the file has; and its
 --                       bytes with zeros after them
---   arcTo mask s t      the arc by symbol s to state t, nothing where t is not in the mask
---   arcsBy n mask s     the arcs by symbol s to the states below n
---   sectionsOf n k ts q the section of state q
---   statesPart n k ts   what stands behind the header: the pairs, and then the sections
+--   arc_to mask s t     the arc by symbol s to state t, nothing where t is not in the mask
+--   arcs_by n mask s    the arcs by symbol s to the states below n
+--   sections_of n k ts q the section of state q
+--   states_part n k ts  what stands behind the header: the pairs, and then the sections
 use Rattle.std.specs.Prelude.{cond, List, [], ◌∷◌, ◌++◌, ℕ, ◌-◌, length, replicate}
 use Rattle.std.proofs.Math.Option.{Option}
 use Rattle.base.specs.Lists.{joined}

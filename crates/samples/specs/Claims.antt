@@ -1,7 +1,7 @@
 -- What is claimed of the answer, for rules worked by hand, for every rule and either wish;
 -- proofs/Claims.antt proves it.
 --
---   Refused-exactly r wish   which number the rule is refused with, condition by condition
+--   RefusedExactly r wish    which number the rule is refused with, condition by condition
 use Rattle.std.specs.Prelude.{◌≡◌, ◌↔◌, ◌⊎◌, List, ℕ, ◌≤◌, length}
 use Rattle.std.proofs.Math.Option.{some}
 use Rattle.automaton.specs.declared.Rule.{Rule}

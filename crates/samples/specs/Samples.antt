@@ -4,7 +4,7 @@
 --   Wished r wish w   w is a text of the rule's symbols that is judged as it is wished
 --   First r wish w    w is wished and comes before every other wished text: it is the shortest,
 --                     and among the shortest the first by symbols
---   setAfter r w      the set of states to which the text w leads from the set of initial states
+--   set_after r w     the set of states to which the text w leads from the set of initial states
 --   ManySets r        more than 512 sets are reached: 513 texts lead to sets of which no two are
 --                     the same. The empty set counts like any other
 --   Searched r        the rule is checked, and at most 512 sets are reached

@@ -3,12 +3,12 @@
 -- text, which is read off on the way back to set 0. Nothing here needs to be believed:
 -- specs/Claims.antt says that it gives the answer that is due.
 --
---   setWalk, reachedSets, reachedTable   the sets of the rule in number order, and the table of
+--   set_walk, reached_sets, reached_table  the sets of the rule in number order, and the table of
 --                        what each leads to by each symbol
---   manySets r           there are more than 512
---   searchNumber r       the number with which the rule is refused: of a checked rule, then 35
+--   many_sets r          there are more than 512
+--   search_number r      the number with which the rule is refused: of a checked rule, then 35
 --   meets finals wish m  the set m has a final state, or none
---   sampleOf r wish      the answer
+--   sample_of r wish     the answer
 use Rattle.std.specs.Prelude.{Bool, cond, not, List, [], ◌∷◌, ◌++◌, ℕ, ltb, length}
 use Rattle.std.proofs.Math.Option.{Option, none, some}
 use Rattle.limits.specs.Limits.{most_sets}

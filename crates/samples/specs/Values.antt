@@ -1,14 +1,14 @@
 -- How an answer is carried by value.
 --
---   longestSample        the most symbols of a sample
---   Reply, answerMeans   which of the three answers it is, and what each case of the code's says
+--   longest_sample       the most symbols of a sample
+--   Reply, answer_means  which of the three answers it is, and what each case of the code's says
 --   Outcome              the answer, the length of the text and the text; and what the code's
---   sampleOutcome        result stands for
---   word_of a, replyOf a  the text of the answer a, empty where there is none; and which answer it is
+--   sample_outcome       result stands for
+--   word_of a, reply_of a  the text of the answer a, empty where there is none; and which answer it is
 --   Carries a o          the value o carries the answer a, in the words of the request: the text with
 --                        its length and zeros after it; where there is none, the length 0 and zeros
---   outcomeOf a          the value that does
---   sampleIn o           the answer that a value tells
+--   outcome_of a         the value that does
+--   sample_in o          the answer that a value tells
 use Rattle.std.specs.Prelude.{◌≡◌, List, [], ℕ, ◌≤◌, ◌<◌, get_or, take, replicate}
 use Rattle.std.proofs.Math.ListN as ListN
 use Rattle.searches.specs.Texts.{longest_text, text_cells}

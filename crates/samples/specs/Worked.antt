@@ -1,9 +1,9 @@
 -- Samples worked by hand: one list, and one claim over it. proofs/Examples.antt proves the claim.
 --
---   ruleA           rule A of document 01, the texts that end in 0 1 (crates/rulecheck)
---   ruleB           rule B of document 01: the texts of an odd number of 0s
---   allTexts        rule A with state 0 final too: every text
---   noEnd           rule A without a final state: no text
+--   rule_A          rule A of document 01, the texts that end in 0 1 (crates/rulecheck)
+--   rule_B          rule B of document 01: the texts of an odd number of 0s
+--   all_texts       rule A with state 0 final too: every text
+--   no_end          rule A without a final state: no text
 --   not0            the texts that 0 does not begin, over two symbols: 0 leads to the empty set
 --   case r wish a   the sample of the rule r for the wish is a
 --   samples         the list

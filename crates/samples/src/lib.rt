@@ -1,5 +1,6 @@
 // A sample trace of a rule: the wishes, and what asking for one answers. What the answer is, and
 // that the words of the request fix it, is in specs/; crates/sampling has the function.
+#![tactic(auto)]
 
 // The most symbols of a sample.
 pub const LONGEST: usize = searches::LONGEST;

@@ -1,9 +1,9 @@
 -- What the parts of the text come to, over plain variables, and how long they are at most. Assumes
 -- nothing.
 --
---   field-empty, field-digits, field-most   a text as a field; at most 1,022 bytes
+--   field_empty, field_digits, field_most   a text as a field; at most 1,022 bytes
 --   line-..      what the line is, answer by answer
---   sample-is    the answer that a result tells is that of the definition
+--   sample_is    the answer that a result tells is that of the definition
 --   lines-..     the two lines, or that of a refusal
 --   file-..      the text for a file
 use mathlib.Core.Path.{◌≡◌, refl, sym, ap, ◌∙◌}

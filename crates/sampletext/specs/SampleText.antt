@@ -1,15 +1,15 @@
 -- What `rulesample` prints, as byte values: two lines, each ended by one line feed, or that of a
 -- refusal.
 --
---   acceptsWord, rejectsWord, noneWord   `accepts `, `rejects `, `none`
+--   accepts_word, rejects_word, none_word  `accepts `, `rejects `, `none`
 --   line_for word a   the line of the answer a: the word and the text in hex digits, `-` for the
 --                    empty text, `none` for none; that of a refusal is `refused` and the number
---   samplesText r    the lines of the rule r; a refusal is the same for both wishes, and printed once
---   textFor f        the text for the rule file f: `refused` and the number of reading, 1 to 8, or
+--   samples_text r   the lines of the rule r; a refusal is the same for both wishes, and printed once
+--   text_for f       the text for the rule file f: `refused` and the number of reading, 1 to 8, or
 --                    the lines of its rule
---   lineRoom         room for a line: a word of 8 bytes, two hex digits for each of 511 bytes, and
+--   line_room        room for a line: a word of 8 bytes, two hex digits for each of 511 bytes, and
 --                    a line feed
---   mostBytes        so many bytes have room for the text of any file (specs/Claims.antt)
+--   most_bytes       so many bytes have room for the text of any file (specs/Claims.antt)
 use Rattle.std.specs.Prelude.{List, [], ◌∷◌, ◌++◌, ℕ, ◌+◌, ◌*◌}
 use Rattle.std.proofs.Math.Option.{Option, none, some}
 use Rattle.fields.specs.Claims.{field_of}

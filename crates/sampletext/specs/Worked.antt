@@ -1,9 +1,9 @@
 -- Printed samples by hand (document 02, R-9). proofs/Examples.antt proves the claims.
 --
---   linesA         `accepts 0001` and `rejects -`: of the texts that end in 0 1 the shortest is
+--   lines_A        `accepts 0001` and `rejects -`: of the texts that end in 0 1 the shortest is
 --                  0 1, and the empty text is none of them
---   fileAll        rule A with state 0 final too: every text
---   linesAll       `accepts -` and `rejects none`
+--   file_all       rule A with state 0 final too: every text
+--   lines_all      `accepts -` and `rejects none`
 --   WorkedSamples  what is printed for the two files
 use Rattle.std.specs.Prelude.{◌≡◌, List, [], ◌∷◌, ◌++◌, ℕ, set}
 use Rattle.ruleformat.specs.Worked.{file_A}

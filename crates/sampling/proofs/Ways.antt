@@ -2,7 +2,7 @@
 -- nothing.
 --
 --   not-not        a test that is denied twice
---   find-refused   the check refuses the rule
+--   find_refused   the check refuses the rule
 --   search-..      more than 512 sets are reached, a set meets the wish, or none does
 use mathlib.Core.Path.{◌≡◌, refl, sym, ap, ◌∙◌}
 use mathlib.Core.Bool.{Bool, true, false, cond, not}

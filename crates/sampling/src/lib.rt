@@ -1,4 +1,6 @@
 // The sample trace of a rule: the first text that it accepts, or the first that it rejects.
+#![tactic(auto)]
+
 ghost use Rattle.std.specs.Prelude.{◌≡◌, ◌≤◌, take};
 ghost use Rattle.limits.specs.Limits.{most_sets};
 ghost use Rattle.automaton.specs.Rules.{WellFormed};

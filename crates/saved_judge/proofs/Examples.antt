@@ -3,7 +3,7 @@
 --
 --   Lead, lead w x c    a field of the number x and c zeros, in w bytes each
 --   span w xs c zs      a field of the numbers xs, c zeros and the numbers zs
---   led-bytes           the bytes of such fields, as pieces
+--   led_bytes           the bytes of such fields, as pieces
 use Rattle.std.proofs.Common.{◌≡◌, ℕ, zero, suc, ◌+◌, ◌*◌, List, [], ◌∷◌, ◌++◌, replicate, sym, refl, ap, ◌∙◌, ap₂, append_assoc, arith}
 use lib.ListN.{replicate-append-replicate}
 use Rattle.calls.specs.declared.Judge.{Judge}

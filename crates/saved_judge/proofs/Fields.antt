@@ -4,10 +4,10 @@
 --   Shape, shape w n    n numbers, in w bytes each
 --   shapes fs           the shapes of the fields fs
 --   fields_at l b i      the fields of the shapes l that stand in b from i on
---   sizeIn l            how many bytes they have
+--   size_in l           how many bytes they have
 --   AllFit fs           each number of fs has room
---   fields_back, fields-cut   the two ways
---   fields-bytes        the bytes of fields are bytes
+--   fields_back, fields_cut   the two ways
+--   fields_bytes        the bytes of fields are bytes
 use Rattle.std.proofs.Common.{◌≡◌, ℕ, ◌+◌, ◌*◌, ◌^◌, ◌<◌, ◌≤◌, List, [], ◌∷◌, ◌++◌, length, get_or, drop, sym, refl, ap, ◌∙◌, ap₂, append_assoc, arith, length-append, length-drop, drop-drop, drop_at}
 use Rattle.ruleformat.specs.Writing.{Bytes}
 use Rattle.ruleformat.proofs.Writing.{bytes_append}

@@ -1,11 +1,11 @@
 -- The judge in its fields: there and back. Assumes nothing.
 --
 --   layout            the shapes of all that comes before the digest
---   head-numbers, head-is-right   what a right head says, number by number
+--   head_numbers, head_is_right   what a right head says, number by number
 --   read_all          the fields that stand in bytes with a right head are those of the judge in them
---   shapes-are, all_fit   the fields of a judge whose numbers fit have that layout, and fit
+--   shapes_are, all_fit   the fields of a judge whose numbers fit have that layout, and fit
 --   head_in           the head of bytes in which the fields of a judge stand
---   judge-of, judge-in    the judge that fields are of, and the one that stands in bytes
+--   judge_of_lem, judge_in  the judge that fields are of, and the one that stands in bytes
 --   fits_in           the numbers of the judge that stands in bytes fit
 use Rattle.std.proofs.Common.{◌≡◌, ℕ, zero, suc, ◌^◌, ◌<◌, Bool, true, false, ◌&&◌, eqb, List, [], ◌∷◌, get_or, refl, ap, lit<, eqb-true}
 use native.Mathlib.Nat.{one-le-pow}

@@ -1,14 +1,14 @@
 -- The laws of numbers in bytes, over the width. Assumes nothing.
 --
---   little-length, numbers-length      how many bytes they have
---   little-bytes, numbers-bytes        each is a byte
---   little-back, numbers-back          what is written is read back
---   little-below, numbers-below        what is read has room in so many bytes
---   numbers-count                      as many numbers are read as asked for
---   little-cut, numbers-cut            bytes are those of what is read from them, and the rest
---   cell_in, numbers-are               number i of those that are read; numbers that are those
---   little-split                       the lower bytes and the upper ones
---   single_of, single-in               one number alone
+--   little_length, numbers_length      how many bytes they have
+--   little_bytes, numbers_bytes        each is a byte
+--   little_back, numbers_back          what is written is read back
+--   little_below, numbers-below        what is read has room in so many bytes
+--   numbers_count                      as many numbers are read as asked for
+--   little_cut, numbers_cut            bytes are those of what is read from them, and the rest
+--   cell_in, numbers_are               number i of those that are read; numbers that are those
+--   little_split                       the lower bytes and the upper ones
+--   single_of, single_in               one number alone
 use Rattle.std.proofs.Common.{◌≡◌, ℕ, zero, suc, ◌+◌, ◌*◌, ◌/◌, ◌%◌, ◌^◌, ◌<◌, ◌≤◌, List, [], ◌∷◌, ◌++◌, length, get_or, drop, sym, refl, ap, ◌∙◌, ap₂, append_assoc, append-nil, mod-lt, pow-suc, arith, lit<, length-append, length-drop, get_or-drop, drop-drop, ext_get_or, drop_at}
 use native.Mathlib.Nat.{pow-succ', one-le-pow, div-div-eq-div-mul}
 use lib.Arith.{mod-mul}

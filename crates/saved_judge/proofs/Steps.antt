@@ -1,11 +1,11 @@
 -- The loops over the bytes of a number and over the cells of an array, over the width. Assumes
 -- nothing.
 --
---   Digits, digits-begin, digits-room, digits_more, digits-done   writing a number, byte by byte:
+--   Digits, digits_begin, digits_room, digits_more, digits_done   writing a number, byte by byte:
 --                    what is left of it
---   Cells, cells-begin, cells-room, cells-more, cells-done   writing numbers, one by one
---   Read, read-begin, read_fits, read_more, read_done        reading a number, the highest byte first
---   Got, got-begin, got-room, got-more, got-done             reading numbers, one by one
+--   Cells, cells_begin, cells_room, cells_more, cells_done   writing numbers, one by one
+--   Read, read_begin, read_fits, read_more, read_done        reading a number, the highest byte first
+--   Got, got_begin, got-room, got_more, got_done             reading numbers, one by one
 use Rattle.std.proofs.Common.{◌≡◌, ℕ, suc, ◌+◌, ◌-◌, ◌*◌, ◌/◌, ◌%◌, ◌^◌, ◌<◌, ◌≤◌, List, [], ◌∷◌, ◌++◌, length, get_or, drop, set, ◌∙◌, add-one, arith, lit<, length-append, length-set, drop_of_length-le, drop-cons}
 use native.Mathlib.Nat.{pow-succ', pow-le-pow_right}
 use Rattle.base.proofs.Lists.{cell_stored}

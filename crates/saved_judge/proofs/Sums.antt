@@ -1,11 +1,11 @@
 -- The laws of the digest of bytes. Assumes nothing.
 --
---   Summed, summed-begin, summed-more, summed-done   the loop over the bytes
+--   Summed, summed_begin, summed_more, summed_done   the loop over the bytes
 --   step_sum          a step, from the sum that the code mixes
---   square-below, sum_below   the numbers on the way to a mixed one have 64 bits
---   mixed-below, mixed_one   a number of 64 bits, mixed, is one, and mixing is one to one
---   from-below        a digest is a number of 64 bits
---   step-in-digest, step-in-byte   a step is one to one in the digest, and in the byte
+--   square_below, sum_below   the numbers on the way to a mixed one have 64 bits
+--   mixed_below, mixed_one   a number of 64 bits, mixed, is one, and mixing is one to one
+--   from_below        a digest is a number of 64 bits
+--   step_in_digest, step_in_byte   a step is one to one in the digest, and in the byte
 --   from_one          so are bytes behind a digest in it
 --   one_byte          where one byte is another, so is the digest
 use Rattle.std.proofs.Common.{◌≡◌, ℕ, zero, suc, ◌+◌, ◌*◌, ◌/◌, ◌%◌, ◌^◌, ◌<◌, ◌≤◌, List, [], ◌∷◌, length, get_or, take, drop, set, sym, refl, ap, ◌∙◌, ap₂, add_assoc, mod-lt, mod-eq_of_lt, mul_assoc, add-mul, mul-le-mul, mul-one, mul-add, add-one, arith, lit<, drop_of_length-le, length-take-le, drop-cons, get_or-take}

@@ -1,11 +1,11 @@
 -- What the functions come to, over plain variables, one law for each way out. Assumes nothing.
 --
---   size_of, fields-length   how many bytes fields have
---   bytes-in-append         the bytes of fields behind others
---   whole-saved             the parts that `save` writes, and the digest, are the saved judge
---   wrong-0 .. wrong-3, head-is   mark, version and length, test by test
---   no_size, no-head, all_right   so of the whole
---   size-right              saved bytes have their number
+--   size_of, fields_length   how many bytes fields have
+--   bytes_in_append         the bytes of fields behind others
+--   whole_saved             the parts that `save` writes, and the digest, are the saved judge
+--   wrong_0 .. wrong_3, head_is   mark, version and length, test by test
+--   no_size, no_head, all_right   so of the whole
+--   size_right              saved bytes have their number
 --   accepted-is, refused-is what `restore` answers
 use Rattle.std.proofs.Common.{◌≡◌, ℕ, ◌+◌, ◌*◌, ◌≤◌, Bool, true, false, eqb, List, [], ◌∷◌, ◌++◌, length, take, sym, refl, ap, ◌∙◌, ap₂, append_assoc, arith, length-append, take_all, eq-eqb, ne_eqb, eqb-true}
 use Rattle.build.specs.declared.Built.{Built}

@@ -6,9 +6,9 @@
 --                     lower half plus the square of the upper comes to stand above, the upper half
 --                     below. It is one to one; by the square, what becomes of a change depends on
 --                     the bytes before it
---   digestStep h x    the digest h with the byte x behind it
---   digestFrom h xs   the digest h with the bytes xs behind it
---   digestOf xs       the digest of the bytes xs
+--   digest_step h x   the digest h with the byte x behind it
+--   digest_from h xs  the digest h with the bytes xs behind it
+--   digest_of xs      the digest of the bytes xs
 use Rattle.std.specs.Prelude.{ℕ, ◌+◌, ◌*◌, ◌/◌, ◌%◌, ◌^◌, List, [], ◌∷◌}
 
 unfoldable pub mixed : ℕ → ℕ

@@ -1,11 +1,11 @@
 -- Numbers in bytes, the lowest byte first.
 --
---   littleOf w x       the number x in w bytes
---   littleIn w s       the number that the first w bytes of s say
---   littleAt w b i     the number that the w bytes of b from i on say
---   numbersOf w xs     the numbers xs one after the other, in w bytes each
---   numbersIn w n s    the n numbers that s begins with, in w bytes each
---   numbersAt w n b i  the n numbers that stand in b from i on, in w bytes each
+--   little_of w x      the number x in w bytes
+--   little_in w s      the number that the first w bytes of s say
+--   little_at w b i    the number that the w bytes of b from i on say
+--   numbers_of w xs    the numbers xs one after the other, in w bytes each
+--   numbers_in w n s   the n numbers that s begins with, in w bytes each
+--   numbers_at w n b i  the n numbers that stand in b from i on, in w bytes each
 use Rattle.std.specs.Prelude.{ℕ, zero, suc, ◌+◌, ◌*◌, ◌/◌, ◌%◌, List, [], ◌∷◌, ◌++◌, drop}
 
 unfoldable pub little_of : ℕ → ℕ → List ℕ

@@ -2,26 +2,26 @@
 -- bytes the whole length, then the judge without padding, each number the lowest byte first, and at
 -- the end 8 bytes, the digest of all bytes before them.
 --
---   savedSize, contentSize   how many bytes there are, and how many come before the digest
+--   saved_size, content_size  how many bytes there are, and how many come before the digest
 --   Field, field w xs        the numbers xs, in w bytes each
 --   one w x                  one number alone
---   bytesIn fs               the bytes of the fields fs, one after the other
---   headFields               mark, version and length
---   numberFields b           of a built rule n, k, startcount, setcount, and the masks of initial and
+--   bytes_in fs              the bytes of the fields fs, one after the other
+--   head_fields              mark, version and length
+--   number_fields b          of a built rule n, k, startcount, setcount, and the masks of initial and
 --                            of final states
---   tableFields b            its 32 delegates, 32 singles, 512 sets and 8,192 cells of the table
---   boardFields b            a board: places, and for each of 64 places filled, count, length,
+--   table_fields b           its 32 delegates, 32 singles, 512 sets and 8,192 cells of the table
+--   board_fields b           a board: places, and for each of 64 places filled, count, length,
 --                            revision; then 2,048 end sets
---   fields_of j, contentOf j  all that comes before the digest, and its bytes
---   savedOf j                the judge j as bytes
---   headRight b              mark, version and length of the bytes b are right
---   isSaved b                so are the number of bytes and the digest
---   builtAt b, boardAt b, judgeAt b   what stands in the bytes b, number by number
---   Restored, restoreOutcome   the outcome of restoring: that number, and the judge; and the outcome
+--   fields_of j, content_of j  all that comes before the digest, and its bytes
+--   saved_of j               the judge j as bytes
+--   head_right b             mark, version and length of the bytes b are right
+--   is_saved b               so are the number of bytes and the digest
+--   built_at b, board_at b, judge_at b  what stands in the bytes b, number by number
+--   Restored, restore_outcome  the outcome of restoring: that number, and the judge; and the outcome
 --                            that the code's result stands for
---   restoreAccepted j, restoreRefused   accepted with the judge j; refused with 46, and then the
+--   restore_accepted j, restore_refused  accepted with the judge j; refused with 46, and then the
 --                            judge is the fresh one
---   restoreOf b              the outcome of restoring the bytes b
+--   restore_of b             the outcome of restoring the bytes b
 use Rattle.std.specs.Prelude.{ℕ, Bool, cond, ◌&&◌, List, [], ◌∷◌, ◌++◌, length, take, ◌==◌}
 use Rattle.std.proofs.Math.Option.{Option, none, some}
 use Rattle.base.specs.Answers.{answer_number}

@@ -1,5 +1,7 @@
 // A judge as bytes, and back: the whole of it in a fixed number of bytes, each number the lowest
 // byte first, with a digest at the end. Any value of a judge is saved; any bytes may be handed in.
+#![tactic(auto)]
+
 ghost use Rattle.std.specs.Prelude.{◌≡◌, ◌+◌, ◌*◌, ◌^◌, ◌<◌, ◌≤◌, length, take};
 ghost use Rattle.text.specs.Writing.{Wrote};
 ghost use Rattle.saved_judge.specs.Little.{little_of, little_at, numbers_of, numbers_at};

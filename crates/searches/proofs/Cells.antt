@@ -1,9 +1,9 @@
 -- The first key that meets a test, and the first cell that holds a number, as loops find them.
 -- Assumes, for a cell, the table of the keys of a walk.
 --
---   where_found, where-none   the loop over the keys stops at a key, or at their end
---   cell-found, cell-none     the loop over the rows stops in a row, or cannot end
---   row-passed                a row without the number is passed
+--   where_found, where_none   the loop over the keys stops at a key, or at their end
+--   cell_found, cell_none     the loop over the rows stops in a row, or cannot end
+--   row_passed                a row without the number is passed
 --   lower, word_more          the way back, for the table as the code has it
 use mathlib.Core.Path.{◌≡◌, sym, ap, ◌∙◌, subst}
 use mathlib.Core.Bool.{Bool, true, false, cond}

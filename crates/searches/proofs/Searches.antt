@@ -6,7 +6,7 @@
 --   Hit, FirstHit   a text that leads to a key with the test; the first of all such
 --   ManyKeys, many  513 texts lead to keys of which no two are the same, and none of them is later
 --                   than a hit: there are more than 512 keys, and none of the first 512 has the test
---   first-hit, no_hit, short-hit   what the search finds, that it misses nothing, and its length
+--   first_hit, no_hit, short_hit   what the search finds, that it misses nothing, and its length
 use mathlib.Core.Path.{◌≡◌, sym, ap, ◌∙◌}
 use mathlib.Core.Logic.{◌↔◌, ⊎_elim}
 use mathlib.Core.Bool.{Bool, true, false}

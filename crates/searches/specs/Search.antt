@@ -2,9 +2,9 @@
 -- a test has the text, which is read off the table of keys on the way back to key 0. Nothing here
 -- needs to be believed: samples and compare say that it gives the answer that is due.
 --
---   firstWhere t l       the place of the first member of l with t; the list's length if none has
---   firstCell cells j    the first cell of the table that holds j
---   wordTo cells j       the symbols of the first cells on the way back from j to 0, the last first
+--   first_where t l      the place of the first member of l with t; the list's length if none has
+--   first_cell cells j   the first cell of the table that holds j
+--   word_to cells j      the symbols of the first cells on the way back from j to 0, the last first
 use Rattle.std.specs.Prelude.{Bool, cond, List, [], ◌∷◌, ◌++◌, ℕ, zero, suc, ◌/◌, ◌%◌, eqb}
 use Rattle.limits.specs.Limits.{most_symbols}
 use Rattle.numbering.specs.Numbering.{index_of}

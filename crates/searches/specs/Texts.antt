@@ -1,7 +1,7 @@
 -- A text by value.
 --
---   longestText    the most symbols of a text that is found
---   textCells w    the text w as an array, with zeros after it
+--   longest_text   the most symbols of a text that is found
+--   text_cells w   the text w as an array, with zeros after it
 use Rattle.std.specs.Prelude.{List, ℕ, ◌-◌, get_or}
 use Rattle.limits.specs.Limits.{most_sets}
 use Rattle.base.specs.Lists.{list_from}

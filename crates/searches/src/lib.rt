@@ -1,4 +1,6 @@
 // The text that leads to a key, read off the table of keys on the way back to key 0.
+#![tactic(auto)]
+
 ghost use Rattle.std.specs.Prelude.{◌≡◌, ◌≤◌, ◌<◌, length, drop};
 ghost use Rattle.limits.specs.Limits.{most_symbols, most_sets};
 ghost use Rattle.searches.specs.Search.{first_cell, word_to};

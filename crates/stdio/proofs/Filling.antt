@@ -1,6 +1,6 @@
 -- For whoever reads: what is counted is within the buffer. Assumes nothing.
 --
---   input-within, input-prefix   of what `read_all` answers
+--   input_within, input_prefix   of what `read_all` answers
 use Rattle.std.specs.Prelude.{◌≡◌, ◌≤◌, List, ℕ, length, take}
 use Rattle.std.proofs.Common.{subst}
 use Rattle.stdio.specs.declared.Input.{Input}

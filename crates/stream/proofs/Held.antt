@@ -1,9 +1,9 @@
 -- What the functions do with a line that is held is what the definitions say. Assumes nothing.
 --
---   read-within, read_whole     how many bytes stand for it
---   ask-inside, run_inside      the bytes that it carries are inside them
---   verdict-came, ask-came, run-came   what comes of one that asks, and of one that is run
---   verdict-text, ask-text, run-text   the same of the answer alone
+--   read_within, read_whole     how many bytes stand for it
+--   ask_inside, run_inside      the bytes that it carries are inside them
+--   verdict_came, ask_came, run_came   what comes of one that asks, and of one that is run
+--   verdict_text, ask_text, run_text   the same of the answer alone
 use mathlib.Core.Path.{◌≡◌, sym, ap, ◌∙◌, subst}
 use mathlib.Core.Bool.{Bool, false}
 use mathlib.Core.List.{List}

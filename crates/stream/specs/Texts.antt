@@ -1,17 +1,17 @@
 -- A text of calls and questions, that comes in blocks.
 --
---   toldRoom            the bytes in which lines are told apart: one less than is kept of a line
---   callList            what comes of a line in a list that goes on
---   callLines           the machine that answers lines
---   historyAfter h m    the calls since the last empty line: h, and then a line that means m in a
+--   told_room           the bytes in which lines are told apart: one less than is kept of a line
+--   call_list           what comes of a line in a list that goes on
+--   call_lines          the machine that answers lines
+--   history_after h m   the calls since the last empty line: h, and then a line that means m in a
 --                       recorded list. None where a malformed line ended the list: no call is made
 --                       until an empty line
---   rightResponse h m   the right answer to such a line after the calls h
---   rightTo h q         the right answer to the question q after the calls h, as text: by the list
+--   right_response h m  the right answer to such a line after the calls h
+--   right_to h q        the right answer to the question q after the calls h, as text: by the list
 --                       alone
---   rightLine h m, knownAfter h m   the right answer to a line of the meaning m after the calls h, and
+--   right_line h m, known_after h m  the right answer to a line of the meaning m after the calls h, and
 --                       the calls after it: a question is none
---   rightText h ls      the right answer to each line, after the calls h and the lines before it
+--   right_text h ls     the right answer to each line, after the calls h and the lines before it
 use Rattle.std.specs.Prelude.{List, [], ◌∷◌, ℕ, pred}
 use Rattle.std.proofs.Math.Option.{Option, none, some}
 use Rattle.limits.specs.Limits.{line_room, answer_room}

@@ -2,16 +2,16 @@
 -- They are the bytes of the files and of what the README and docs/PROGRAMS.md print, not the words of
 -- the definitions.
 --
---   cutText      `verdict`, `verd`, `ict`, `verdict`, an empty line, `verdict`
---   cutAnswers   `refused 21`, `malformed`, `skipped`, `skipped`, an empty line, `refused 21`
---   sampleText      `load HEX` with rule A, `open 2`, `verdict`, `deliver 1 0 01`, `deliver 0 0 00`,
+--   cut_text     `verdict`, `verd`, `ict`, `verdict`, an empty line, `verdict`
+--   cut_answers  `refused 21`, `malformed`, `skipped`, `skipped`, an empty line, `refused 21`
+--   sample_text     `load HEX` with rule A, `open 2`, `verdict`, `deliver 1 0 01`, `deliver 0 0 00`,
 --                   `verdict`, `deliver 0 0 01`, `withdraw 0`, `deliver 0 1 01`, `verdict`
---   sampleAnswers   `accepted 5 3`, `accepted`, `waiting 2`, `accepted 1`, `accepted 1`,
+--   sample_answers  `accepted 5 3`, `accepted`, `waiting 2`, `accepted 1`, `accepted 1`,
 --                   `yes 3 2 1 1`, `refused 22`, `accepted`, `accepted 1`, `no 3 2 1 1`
---   lostText        `load HEX` with rule A, of which state 1 is initial, so that it accepts the text 1
+--   lost_text       `load HEX` with rule A, of which state 1 is initial, so that it accepts the text 1
 --                   alone; `diagnose`, `open 2`, `deliver 0 0 01`, `diagnose`, `locate 1 00`,
 --                   `locate 1 -`, `deliver 1 0 FF00`, `diagnose`, `locate 1 FF00`, `locate 0 01`
---   lostAnswers     `accepted 5 3`, `refused 21`, `accepted`, `accepted 1`, `open 1`, `after 1`,
+--   lost_answers    `accepted 5 3`, `refused 21`, `accepted`, `accepted 1`, `open 1`, `after 1`,
 --                   `nowhere`, `accepted 1`, `lost 1`, `after 2`, `nowhere`
 use Rattle.std.specs.Prelude.{List, [], ◌∷◌, ◌++◌, ℕ}
 

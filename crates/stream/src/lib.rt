@@ -1,4 +1,6 @@
 // Answers the lines of a text that comes in blocks, cut anywhere: calls are run, questions answered.
+#![tactic(auto)]
+
 ghost use Rattle.std.specs.Prelude.{◌≤◌, length};
 ghost use Rattle.limits.specs.Limits.{bytes_room, line_room, answer_room};
 ghost use Rattle.text.specs.Writing.{Wrote};

@@ -2,9 +2,9 @@
 -- tells of more than 512 sets the table is zeros. Assumes nothing.
 --
 --   told-..                   what is told of so many sets
---   masks-are, cells_are      the lower halves of the sets are the sets, and the cells those of the
+--   masks_are, cells_are      the lower halves of the sets are the sets, and the cells those of the
 --                             table
---   table-whole, table-over   the ways out
+--   table_whole, table_over   the ways out
 use mathlib.Core.Path.{◌≡◌, refl, sym, ap, ◌∙◌}
 use mathlib.Core.Bool.{Bool, true, false, cond}
 use mathlib.Core.List.{List, [], ◌∷◌}

@@ -2,7 +2,7 @@
 -- Assumes nothing.
 --
 --   in_row       a symbol of 16 or more leads to the empty set
---   not-empty    {q} is not empty
+--   not_empty    {q} is not empty
 --   states-..    the turn of {q}: its sets are numbered, or the 513th turned up
 use mathlib.Core.Path.{◌≡◌, sym, ap, ◌∙◌}
 use mathlib.Core.Bool.{false}

@@ -4,13 +4,13 @@
 -- the sets {q}. A set's number is its place in a list; 512 stands for the empty set, which has no
 -- number.
 --
---   setWalk ts k         sets as the keys of numbering
+--   set_walk ts k        sets as the keys of numbering
 --   index_of sets m      the number of the set m; the list's length where it has none
---   setsUpTo ts k q      the procedure, for the states below q
---   setsOf ts n k        the numbered sets, in number order
---   tooMany ts n k       there are more than 512 (9)
---   nextSet ts n k i s   the next-set table: the number of the successor of set i by s, or 512
---   setCells, nextCells  both as arrays; a cell not in use is 0 or 512
+--   sets_up_to ts k q    the procedure, for the states below q
+--   sets_of ts n k       the numbered sets, in number order
+--   too_many ts n k      there are more than 512 (9)
+--   next_set ts n k i s  the next-set table: the number of the successor of set i by s, or 512
+--   set_cells, next_cells  both as arrays; a cell not in use is 0 or 512
 use Rattle.std.specs.Prelude.{Bool, List, ℕ, ◌/◌, ◌%◌, min, eqb, ltb, length, get_or}
 use Rattle.limits.specs.Limits.{most_states, most_symbols, most_sets, table_cells}
 use Rattle.base.specs.Lists.{list_from}

@@ -1,5 +1,7 @@
 // The sets of states that get a number, in the order of their numbers, and the next-set table: the
 // loop of keys from each set {q} in turn, with the empty set left out.
+#![tactic(auto)]
+
 ghost use Rattle.std.specs.Prelude.{◌≡◌, ℕ, ◌%◌, ◌^◌, ◌<◌, length, get_or};
 ghost use Rattle.base.specs.Lists.{list_from};
 ghost use Rattle.limits.specs.Limits.{most_states, most_sets, empty_set};

@@ -1,9 +1,9 @@
 -- One lemma over plain variables for each way out of the functions. Assumes nothing.
 --
 --   gap-..             the two summaries do not join, for each reason, or they do
---   same-summary       a summary, field by field
---   summary-20, summary-12, summary-refused, summary-made   each way out of `summarize_of`
---   report-20 .. report-made   each way out of `conclude_of`
+--   same_summary       a summary, field by field
+--   summary_20, summary_12, summary_refused_lem, summary_made  each way out of `summarize_of`
+--   report_20 .. report_made   each way out of `conclude_of`
 use mathlib.Core.Path.{◌≡◌, refl, sym, ap, ◌∙◌}
 use mathlib.Core.Bool.{Bool, true, false, cond}
 use mathlib.Core.List.{List}

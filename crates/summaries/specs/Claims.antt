@@ -1,13 +1,13 @@
 -- What makes summaries fit to judge by, of all values and on any judge: no rule is asked for;
 -- proofs/Claims.antt proves it. crates/summaryverdict says what they come to for a rule.
 --
---   countsIn s, bytesIn s   the sums of the counts and of the bytes
+--   counts_in s, bytes_in s  the sums of the counts and of the bytes
 --   end_in a s          the number after the last chunk of the summary a and those behind it
 --   Joined a s         the summary a and those behind it are whole: none is broken, each begins
 --                      where the one before it ends, and all are of one rule
---   Summarized-exactly j number w   which number summarizing is refused with, condition by
+--   SummarizedExactly j number w    which number summarizing is refused with, condition by
 --                      condition
---   Concluded-exactly j a chunks    the same of concluding
+--   ConcludedExactly j a chunks     the same of concluding
 use Rattle.std.specs.Prelude.{◌≡◌, ◌↔◌, ◌⊎◌, true, false, List, [], ◌∷◌, ℕ, ◌+◌, ◌≤◌, ◌<◌, length, get_or}
 use Rattle.std.proofs.Math.Option.{none, some}
 use Rattle.limits.specs.Limits.{most_states, longest_chunk, largest_number}

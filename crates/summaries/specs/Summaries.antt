@@ -21,22 +21,22 @@
 --                      the same
 --   place_of number     the place that the chunk of that number is run as at: 0 for chunk 0, and 1
 --                      for any other (document 01, "Running a chunk", asks no more of a place)
---   leadsOf d n ends   the leads of the end sets, where d lists the delegates of n states
---   runsBy b number w  what running the chunk w gives by the built rule b
---   made_of b number w, madeFrom   its summary, by what running it gives. The number 2^64 − 1 has
+--   leads_of d n ends  the leads of the end sets, where d lists the delegates of n states
+--   runs_by b number w  what running the chunk w gives by the built rule b
+--   made_of b number w, made_from  its summary, by what running it gives. The number 2^64 − 1 has
 --                      none after it: broken
---   Summarized, summaryOutcome   the answer, none or the number of a refusal, and the summary; and
+--   Summarized, summary_outcome  the answer, none or the number of a refusal, and the summary; and
 --                      what the code's result stands for
---   noSummary, summaryRefused x   zeros, and broken: what a refusal carries; refused with x
---   summaryNumber j w  the number of the refusal: 20, without a rule; 12, 13 (chunks' chunkNumber)
---   summarizeOf j number w   what the judge j answers to the chunk w of that number: refused
---                      (summaryBy), or its summary
---   reachedBy b a      the delegates of initial states are led there: the starts that are reached
---   concludeConditions j a chunks   20, without a rule; 42, broken, or not from chunk 0; 43, of
---                      another rule; 44, not that many chunks, or none; concludeNumber, the first
+--   no_summary, summary_refused x  zeros, and broken: what a refusal carries; refused with x
+--   summary_number j w  the number of the refusal: 20, without a rule; 12, 13 (chunks' chunk_number)
+--   summarize_of j number w  what the judge j answers to the chunk w of that number: refused
+--                      (summary_by), or its summary
+--   reached_by b a     the delegates of initial states are led there: the starts that are reached
+--   conclude_conditions j a chunks  20, without a rule; 42, broken, or not from chunk 0; 43, of
+--                      another rule; 44, not that many chunks, or none; conclude_number, the first
 --                      that holds
---   saidBy t count     yes or no with the count
---   concludeOf j a chunks   the report, which is refused (concludeBy) by these conditions in this
+--   said_by t count    yes or no with the count
+--   conclude_of j a chunks  the report, which is refused (conclude_by) by these conditions in this
 --                      order; else yes exactly where a final start is reached, with the count and
 --                      its quotient by the bytes (document 02, R-1)
 use Rattle.std.specs.Prelude.{Bool, cond, ◌&&◌, ◌||◌, not, List, [], ◌∷◌, ℕ, zero, suc, ◌+◌, min, eqb, ltb, get_or, replicate}

@@ -1,6 +1,8 @@
 // Summaries: a chunk is run by itself, on whatever machine, and what it comes to is a value; two
 // such values are combined into that of both chunks, one behind the other, and the last one is
 // concluded. Any value is taken.
+#![tactic(auto)]
+
 ghost use Rattle.std.specs.Prelude.{◌≡◌, cond, ◌+◌, ltb};
 ghost use Rattle.limits.specs.Limits.{most_states, largest_number};
 ghost use Rattle.compositions.specs.Relations.{image_of};

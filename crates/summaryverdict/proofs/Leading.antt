@@ -3,9 +3,9 @@
 -- where a member of C is. Assumes nothing, and in the last part a well-formed rule with its
 -- delegates.
 --
---   lead-place         one place
+--   lead_place         one place
 --   join_first         the join, the first place apart
---   final-reached      C has a final state exactly where a final start is reached
+--   final_reached      C has a final state exactly where a final start is reached
 use mathlib.Core.Path.{◌≡◌, refl, sym, ap, ◌∙◌, subst}
 use mathlib.Core.Logic.{◌↔◌}
 use mathlib.Core.Bool.{true}

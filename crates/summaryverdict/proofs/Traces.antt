@@ -2,11 +2,11 @@
 -- concluded. Assumes a rule that is well formed and has at most 512 sets, and chunks that are not
 -- refused.
 --
---   chunks-joined      the summaries are whole and stand in order
---   reached-is         the starts that are reached are the delegates of the members of C
---   yes-law            a final start is reached exactly where the rule accepts the texts joined
+--   chunks_joined      the summaries are whole and stand in order
+--   reached_is         the starts that are reached are the delegates of the members of C
+--   yes_law            a final start is reached exactly where the rule accepts the texts joined
 --   count-is, bytes-is   the sums, cut off
---   few-counts, few_bytes   which cuts off nothing with fewer than 2^43 chunks
+--   few_counts, few_bytes   which cuts off nothing with fewer than 2^43 chunks
 use mathlib.Core.Path.{◌≡◌, refl, sym, ap, ap₂, ◌∙◌, subst}
 use mathlib.Core.Logic.Iff
 use mathlib.Core.Logic.{◌↔◌}

@@ -9,7 +9,7 @@
 --                      says what summarizing a chunk may give, and `Puts` what combining may
 --   SummarizedOn r     on some machine calls were made after which the rule r is there, and the
 --                      function gave this summary
---   numberedFrom p ws  the chunks ws, numbered from p on
+--   numbered_from p ws  the chunks ws, numbered from p on
 use Rattle.std.specs.Prelude.{◌≡◌, ◌↔◌, List, [], ◌∷◌, ◌++◌, ℕ, suc, ◌≤◌, length}
 use Rattle.std.proofs.Math.Option.{none, some}
 use contract.Lifetimes.{Lfts}

@@ -1,9 +1,9 @@
 -- Summarizing and concluding after a list of calls, by the list alone: they go by the rule that is
 -- there, of which specs/Traces.antt says what they come to. proofs/Lists.antt proves it.
 --
---   summaryThere o number w   what is answered to the chunk w of that number, where o is the rule
+--   summary_there o number w  what is answered to the chunk w of that number, where o is the rule
 --                             that is there: refused with 20 where none is
---   concludeThere o a chunks  what is concluded there of the summary a
+--   conclude_there o a chunks  what is concluded there of the summary a
 use Rattle.std.specs.Prelude.{◌≡◌, List, ℕ}
 use Rattle.std.proofs.Math.Option.{Option, none, some}
 use Rattle.automaton.specs.declared.Rule.{Rule}

@@ -4,24 +4,24 @@
 -- combined, in whatever order, a conclusion that is not refused is the report of the chunks that
 -- were used. proofs/Claims.antt proves it.
 --
---   judgeOf r          a judge that has the rule r built. What it answers to summarizing and
+--   judge_of r         a judge that has the rule r built. What it answers to summarizing and
 --                      concluding any other answers that has it built (`any_judge`)
---   summaryAt r number w   the summary of the chunk w of that number, by the rule r
---   summariesFrom r p ws   those of the chunks ws, numbered from p on
+--   summary_at r number w  the summary of the chunk w of that number, by the rule r
+--   summaries_from r p ws  those of the chunks ws, numbered from p on
 --   SummarizesAll r ws     none of the chunks ws is refused
---   textsOf ws         their texts, without idle marks
+--   texts_of ws        their texts, without idle marks
 --   count_of r ws       the sum of the counts that document 01 gives to the chunks
---   manyChunks         with fewer chunks no sum comes to 2^64
+--   many_chunks        with fewer chunks no sum comes to 2^64
 --   Trace r ws t       in the brackets t stand the summaries of the chunks ws, numbered from 0 on,
 --                      of which none is refused; they can be counted in 64 bits
 --   Reports r ws x     x is the report of the chunks ws: yes exactly where the rule r accepts their
 --                      texts joined, else no; with the sum of their counts and of their bytes, up
 --                      to 2^64 − 1, which says that many or more, and the quotient and remainder
---   Numbered           a chunk with the number that it is summarized as; numbersOf and chunks_of
---   madeBy r ps        the summaries that the rule r makes of numbered chunks, refused ones too
+--   Numbered           a chunk with the number that it is summarized as; numbers_of and chunks_of
+--   made_by r ps       the summaries that the rule r makes of numbered chunks, refused ones too
 --   Used r ps chunks x   the numbered chunks ps are numbered 0, 1, .. chunks − 1, in this order,
 --                      none of them is refused, and the report x is theirs
---   concludedBy r t chunks   what is concluded of the summaries in the brackets t, by the rule r
+--   concluded_by r t chunks  what is concluded of the summaries in the brackets t, by the rule r
 use Rattle.std.specs.Prelude.{◌≡◌, ◌↔◌, ◌⊎◌, ℕ, suc, ◌≤◌, ◌<◌, length, get_or}
 use mathlib.Core.List.{List, [], ◌∷◌, map, flatten}
 use Rattle.std.proofs.Math.Option.{none, some}

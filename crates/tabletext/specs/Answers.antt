@@ -1,12 +1,12 @@
 -- How a line of `formtable` is answered, as byte values.
 --
---   bareCell to        a cell of the table: the number of a set, or - for 512
---   cellText c to      cell c of the line, with a space before it unless it is the first
---   cellsText next k n the first n cells of a table with k symbols, in order
---   tableLine t        the cells of the table t, on one line
---   backText b         what the way back from a form answers: the table, or `refused` and the number
---   answerText o       the answer to a line that says the form o, if it says one
---   mostAnswer         the most bytes of an answer: four for each cell, and a line feed
+--   bare_cell to       a cell of the table: the number of a set, or - for 512
+--   cell_text c to     cell c of the line, with a space before it unless it is the first
+--   cells_text next k n the first n cells of a table with k symbols, in order
+--   table_line t       the cells of the table t, on one line
+--   back_text b        what the way back from a form answers: the table, or `refused` and the number
+--   answer_text o      the answer to a line that says the form o, if it says one
+--   most_answer        the most bytes of an answer: four for each cell, and a line feed
 use Rattle.std.specs.Prelude.{cond, List, [], ◌∷◌, ◌++◌, ℕ, ◌+◌, ◌*◌, ◌/◌, ◌%◌, eqb, ltb, get_or}
 use Rattle.std.proofs.Math.Option.{Option, none, some}
 use Rattle.limits.specs.Limits.{most_symbols, empty_set, table_cells}

@@ -1,6 +1,6 @@
 -- The answer to the line of rule A's form (crates/formline), in bytes, by hand.
 --
---   tableA   `1 0 1 2 1 0 - 4 - -`: the table that `ruleprint` shows, set by set
+--   table_A  `1 0 1 2 1 0 - 4 - -`: the table that `ruleprint` shows, set by set
 use Rattle.std.specs.Prelude.{List, [], ◌∷◌, ℕ}
 
 abbrev pub table_A : List ℕ

@@ -1,5 +1,7 @@
 // The answer to a line of formtable: the cells of the table, `refused` and the number, or that the
 // line is malformed.
+#![tactic(auto)]
+
 ghost use Rattle.std.specs.Prelude.{◌+◌, ◌*◌, ◌≤◌, length};
 ghost use Rattle.limits.specs.Limits.{most_symbols, most_sets};
 ghost use Rattle.text.specs.Writing.{Wrote};

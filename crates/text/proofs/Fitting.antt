@@ -2,8 +2,8 @@
 --
 --   Put             the piece fits and was written; the buffer keeps its length
 --   put             what a call says of its piece
---   _then_          a piece and then another is both in one
---   none-put, one_more   for a loop over `joined`
+--   ◌then◌          a piece and then another is both in one
+--   none_put, one_more   for a loop over `joined`
 --   taken           a piece that was written from the start is read back
 use mathlib.Core.Path.{◌≡◌, refl, ap, ◌∙◌}
 use mathlib.Core.List.{List, ◌++◌}

@@ -1,8 +1,8 @@
 -- The laws of writing pieces one after the other. Assumes nothing.
 --
---   wrote_none, wrote-byte   nothing, one byte
---   wrote-more               a piece and then another is both in one
---   wrote-length             the buffer keeps its length
+--   wrote_none, wrote_byte   nothing, one byte
+--   wrote_more               a piece and then another is both in one
+--   wrote_length             the buffer keeps its length
 use mathlib.Core.Path.{◌≡◌, refl, sym, ap, ap₂, ◌∙◌}
 use mathlib.Core.List.{List, [], ◌∷◌, ◌++◌, append_assoc}
 use Prim.Native.Nat.{ℕ, ◌+◌, ◌≤◌, ◌<◌}

@@ -12,8 +12,8 @@
 --   made      the length of a new buffer, given by a law and not by counting it out
 --   has_room  what is to be written has room in it
 --   within    so where it ends lies in the buffer
---   still-within   and in one of the same length
---   whole-within   a text that fits ends within the buffer that it was written to
+--   still_within   and in one of the same length
+--   whole_within   a text that fits ends within the buffer that it was written to
 use mathlib.Core.Path.{◌≡◌}
 use mathlib.Core.List.{List, [], ◌++◌}
 use Prim.Native.Nat.{ℕ, ◌+◌, ◌≤◌, ◌<◌}

@@ -1,5 +1,7 @@
 // Writes bytes and numbers into a lent buffer, one after the other. Each function answers where its
 // piece ends.
+#![tactic(auto)]
+
 ghost use Rattle.std.specs.Prelude.{◌≡◌, [], ◌∷◌, ◌+◌, ◌≤◌, ◌<◌, length};
 ghost use Rattle.text.specs.Numerals.{decimal, hex_digit, hex};
 ghost use Rattle.text.specs.Writing.{Wrote};

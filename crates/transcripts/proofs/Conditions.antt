@@ -2,9 +2,9 @@
 -- stands. Assumes nothing.
 --
 --   number_of h c       the number that the calls h give to the call c, or none
---   refused-law        it is some x exactly when x's condition is the first that holds
---   accepted-law       it is none exactly when no condition holds
---   refusal-law        the answer refuses with x exactly then
+--   refused_law        it is some x exactly when x's condition is the first that holds
+--   accepted_law       it is none exactly when no condition holds
+--   refusal_law        the answer refuses with x exactly then
 use mathlib.Core.Path.{◌≡◌, refl, sym, ap}
 use mathlib.Core.Logic.Iff
 use mathlib.Core.Logic.{◌↔◌, ◌⊎◌, inl, inr, ⊎_elim}

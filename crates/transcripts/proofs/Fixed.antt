@@ -2,9 +2,9 @@
 -- Assumes nothing.
 --
 --   one_number       R-2's number is fixed
---   one-report       what the verdict reports is fixed
---   one-reply        an answer to a call after the calls h
---   one-list         the replies to a whole list
+--   one_report       what the verdict reports is fixed
+--   one_reply        an answer to a call after the calls h
+--   one_list         the replies to a whole list
 use mathlib.Core.Path.{◌≡◌, refl, sym, ap, ap₂, ◌∙◌, subst}
 use mathlib.Core.Logic.{inl, inr}
 use mathlib.Core.Bool.{cond}

@@ -1,10 +1,10 @@
 -- What stands at each place, and over all of them: the end sets, counts and texts of document 01,
 -- where s is what the calls h say. Assumes nothing.
 --
---   rule-there         a chunk stands only where a rule is there
---   end-at, count_at_lem   the end sets and the count of a place
---   sum-law            the sum of the counts
---   empties-same, text_same, accepts-same   the empty places, the text, and which texts are
+--   rule_there_lem     a chunk stands only where a rule is there
+--   end_at_lem, count_at_lem  the end sets and the count of a place
+--   sum_law            the sum of the counts
+--   empties_same, text_same, accepts_same   the empty places, the text, and which texts are
 --                                           accepted
 use mathlib.Core.Path.{◌≡◌, refl, sym, ap, ◌∙◌, subst, fun_ext}
 use mathlib.Core.Logic.Iff

@@ -2,10 +2,10 @@
 -- from, its end sets, its count and R-2's number. Of a rule as a value first, then of the bytes of
 -- a file, whose automaton has the same runs. Assumes nothing.
 --
---   run-within          a run goes on from a state below n
---   started-law         the set of the states that are run has the started ones
---   end-law, count_law, looked-law   end sets, counts and R-2's number
---   run-by, started-by  of what a rule comes from
+--   run_within          a run goes on from a state below n
+--   started_law         the set of the states that are run has the started ones
+--   end_law, count_law, looked_law   end sets, counts and R-2's number
+--   run_by_lem, started_by  of what a rule comes from
 use mathlib.Core.Path.{◌≡◌, subst}
 use mathlib.Core.Logic.Iff
 use mathlib.Core.Logic.{◌↔◌}

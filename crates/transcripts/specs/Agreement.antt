@@ -2,7 +2,7 @@
 -- specs/History.antt): two ways through a list, which come to the same where the replies are
 -- document 01's. proofs/Agree.antt proves it of every list.
 --
---   value_of x, ruleFor o   the rule as a value
+--   value_of x, rule_for o  the rule as a value
 --   SoundSource x, Sound o   what the rule comes from is accepted
 --   Agree h s              s is what the calls h say
 use Rattle.std.specs.Prelude.{◌≡◌, List, ℕ}

@@ -1,11 +1,11 @@
 -- What document 01 answers to a call where s stands. A call is refused with a number exactly when
 -- its condition is the first that holds, and accepted when none does.
 --
---   conditionsOf s c   the conditions of the call c in document 01's order, but for 9
+--   conditions_of s c  the conditions of the call c in document 01's order, but for 9
 --   Many c             9: more than 512 sets are reached in the automaton that c brings
 --   RefusedWith s c x  the condition numbered x is the first that holds
 --   AcceptedBy s c     none holds
---   refusalBy c x      the reply that refuses the call c with x; a verdict's has three zeros beside
+--   refusal_by c x     the reply that refuses the call c with x; a verdict's has three zeros beside
 --                      it
 --   Reports s r        what the verdict reports where a board is there (document 02, R-1)
 --   Value s c a        what an accepted call is answered

@@ -1,7 +1,7 @@
 -- Demand 3, one claim over a whole list: what holds of the replies to every list of calls, and of
 -- the judge that is left. proofs/EveryList.antt proves it.
 --
---   leastAfter last   one more than the last revision, 0 where there is none: so the board keeps it
+--   least_after last  one more than the last revision, 0 where there is none: so the board keeps it
 --   SameBuilt k b c   the built rules b and c have the same sets, table, delegates and M
 --   Holds s j         the judge j holds what stands: the rule, built as document 004 has it, and at
 --                     each place the end sets, the count, the length and the revision

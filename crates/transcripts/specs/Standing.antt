@@ -3,19 +3,19 @@
 -- a state. Both lists have the LAST call first.
 --
 --   Source             where a rule comes from: a value that was installed, or the bytes of a file
---   automatonBy x      the automaton that it states (document 000)
+--   automaton_by x     the automaton that it states (document 000)
 --   Standing           what stands: where the rule comes from, if one is there; the number of
 --                      places, 0 where no board is there (an opening that is accepted has at least
 --                      one); at each place the standing chunk, and the last revision accepted since
 --                      the opening (document 02, R-11), or none
---   allEmpty x n       a rule from x, and n places, all empty
+--   all_empty x n      a rule from x, and n places, all empty
 --   placed p x f       f, with x at place p
 --   after_call s c      what stands after the accepted call c, where s stood before it
---   standingAfter h rs what stands after the calls h, to which rs were the replies
---   theAutomaton s     the automaton of the rule; one without states where no rule is there
---   textAt s p         the standing chunk's text, without its idle marks (document 02, R-5); no
+--   standing_after h rs what stands after the calls h, to which rs were the replies
+--   the_automaton s    the automaton of the rule; one without states where no rule is there
+--   text_at s p        the standing chunk's text, without its idle marks (document 02, R-5); no
 --                      byte where none stands
---   textIn s           these texts joined by place
+--   text_in s          these texts joined by place
 --   empties s          how many places are empty
 use Rattle.std.specs.Prelude.{cond, List, [], ◌∷◌, ℕ, eqb}
 use Rattle.std.proofs.Math.Option.{Option, none, some}

@@ -1,6 +1,8 @@
 // The board of a tray: what is read of it, and a band stored and withdrawn. Any value of any field
 // is taken: numbers that are too large count as the largest that are allowed, and a width of 0
 // as 1.
+#![tactic(auto)]
+
 ghost use Rattle.std.specs.Prelude.{◌≡◌, false, cond, ◌≤◌, ◌<◌, eqb, length, get_or};
 ghost use Rattle.base.specs.Totals.{total};
 ghost use Rattle.trays.specs.Sizes.{most_width, most_bands, most_rows, tray_cells};

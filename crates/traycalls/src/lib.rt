@@ -1,4 +1,6 @@
 // A tray: six calls over one state.
+#![tactic(auto)]
+
 ghost use Rattle.std.specs.Prelude.{◌≡◌, false, ◌||◌, ◌<◌, eqb};
 ghost use Rattle.trays.specs.Replies.{accepted, refused, install_means, verdict_means};
 ghost use Rattle.trays.specs.Calls.{not_rows, foreign_to};

@@ -1,9 +1,9 @@
 -- What is found in the state after a list of calls is what is found by the list: the finding hangs
 -- on the rows of the bands that are there, and on no other number of the state. Assumes nothing.
 --
---   rows_same, beyond-same   the same rows and the same empty bands
---   faultIn                  the finding by the list
---   fault-after              the finding of the state is that
+--   rows_same, beyond_same   the same rows and the same empty bands
+--   fault_in                 the finding by the list
+--   fault_after              the finding of the state is that
 use mathlib.Core.Path.{◌≡◌, refl, sym, ap, ap₂, ◌∙◌}
 use mathlib.Core.Bool.{Bool, true, false, cond}
 use mathlib.Core.List.{List}

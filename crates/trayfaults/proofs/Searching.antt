@@ -1,11 +1,11 @@
 -- What each search finds, in the list's words: each law says when it finds nothing, what it finds,
 -- and that it finds what the words say. Assumes well-formed rules.
 --
---   rows_right, row-wrong, wrong_row       the rows
---   column-kept, column-stuck, stuck-column   one column
---   columns-kept, columns-stuck, stuck-columns   all columns: the first that is lost
---   all-accepted, one-short, short-one     the first that is not accepted
---   before-is, before-once                 the bands before the first empty one
+--   rows_right, row_wrong_lem, wrong_row   the rows
+--   column_kept, column_stuck_lem, stuck_column  one column
+--   columns_kept, columns_stuck_lem, stuck_columns  all columns: the first that is lost
+--   all_accepted, one_short, short_one     the first that is not accepted
+--   before_is, before_once                 the bands before the first empty one
 use mathlib.Core.Path.{◌≡◌, refl, sym, ap, ◌∙◌, subst}
 use mathlib.Core.Logic.{◌↔◌, inl, inr}
 use mathlib.Core.Bool.{Bool, true, false, cond}

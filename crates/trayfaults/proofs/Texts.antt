@@ -1,8 +1,8 @@
 -- Where a row stands among the rows of bands, and the columns of the first rows. Assumes nothing.
 --
---   below-fits           a band's rows end where those of a later one begin, or before
---   take-up              the rows of the bands below b, and the first of band b behind them
---   column-less, column-part   what continues the column of some rows continues that of fewer
+--   below_fits           a band's rows end where those of a later one begin, or before
+--   take_up              the rows of the bands below b, and the first of band b behind them
+--   column_less, column_part   what continues the column of some rows continues that of fewer
 use mathlib.Core.Path.{◌≡◌, sym, ap, ◌∙◌, subst}
 use mathlib.Core.Logic.{⊎_elim}
 use mathlib.Core.List.{List, ◌++◌}

@@ -1,8 +1,8 @@
 -- What is found beside a verdict, and of a column rule that accepts nothing. Assumes nothing.
 --
---   row-of-all, all-of-rows   each row of all is one of a band, and back
---   yes-exactly, no-exactly   the verdict says yes, and no
---   accepts-nothing           a column rule that accepts nothing
+--   row_of_all, all-of-rows   each row of all is one of a band, and back
+--   yes_exactly, no_exactly   the verdict says yes, and no
+--   accepts_nothing           a column rule that accepts nothing
 use mathlib.Core.Path.{◌≡◌, refl, sym, ap, ◌∙◌, subst}
 use mathlib.Core.Logic.{◌↔◌, inl}
 use mathlib.Core.List.{List, [], append-nil}

@@ -6,8 +6,8 @@
 --                         then by row; bands behind an empty one count
 --   RowsRight h           it accepts every standing row
 --   Before h m            m bands stand before the first empty one
---   columnText h m c k    column c of the first k rows of the first m bands
---   wholeColumn h m c     column c of all their rows
+--   column_text h m c k   column c of the first k rows of the first m bands
+--   whole_column h m c    column c of all their rows
 --   Hopeful h m c         some text continues it to one that the column rule accepts
 --   LostWith h m c b i    column c is lost with row i of band b: its text before that row can be
 --                         continued, and not with it. Where not even the empty text can, which is
@@ -66,7 +66,7 @@ module _ (h : List Call) where
   abbrev pub ColumnAccepted : ℕ → ℕ → Type 0
   ColumnAccepted m c = Accepts (automaton_of (column_in h)) (whole_column m c)
 
-  -- row i of band b is row number rowsBelow .. b + i of all
+  -- row i of band b is row number rows_below .. b + i of all
   abbrev pub LostWith : ℕ → ℕ → ℕ → ℕ → Type 0
   LostWith m c b i =
       ((Continued (automaton_of (column_in h)) (column_text m c 0) → ⊥) × (b ≡ 0) × (i ≡ 0))

@@ -4,10 +4,10 @@
 --
 --   Rules, Band              what holds of the rules, and of one band
 --   Agrees                   what holds of the state
---   Opened, opened-law       what an opening that met no condition has
---   no-rule, few, no-board, bands-same, width_same   what the state's tests test
---   all-empty, all-removed   a board with all bands empty, and none
---   cleared-holds, filled-holds   one band changed
+--   Opened, opened_law       what an opening that met no condition has
+--   no_rule_lem, few, no_board, bands_same, width_same  what the state's tests test
+--   all-empty, all_removed   a board with all bands empty, and none
+--   cleared_holds, filled_holds   one band changed
 use mathlib.Core.Path.{◌≡◌, refl, sym, ap, ap₂, ◌∙◌, subst}
 use mathlib.Core.Bool.{Bool, false, ◌||◌}
 use mathlib.Core.List.{List}

@@ -2,9 +2,9 @@
 -- every list. `after_any_list` of proofs/Refinement.antt ties it to the functions: what their own
 -- contracts allow is `replies_to` and `tray_after`.
 --
---   trayMachine         a tray as a machine: the outcome of a call is crates/trays' `step_of`
---   trayAfter h         the tray that the calls h leave, from a fresh one
---   repliesTo h         the replies to them
+--   tray_machine        a tray as a machine: the outcome of a call is crates/trays' `step_of`
+--   tray_after h        the tray that the calls h leave, from a fresh one
+--   replies_to h        the replies to them
 --   Invariant h t       what holds of the state t after the calls h
 --   BoardClauses h      what holds of the rules, the board and the bands that a list says are there
 --   VerdictClauses h    R-13's words for the verdict asked after h

@@ -7,8 +7,8 @@
 --   RulesIn h             both rules are there
 --   WholeRows w b         the bytes b are whole rows of w events, at most 64
 --   AtOrAbove k b         some byte of b is at or above k
---   numbersOf c           the numbers that R-13 gives to the call c, the verdict among them
---   No-other-number       a call is refused with none but these ("never otherwise": document 01).
+--   numbers_of c          the numbers that R-13 gives to the call c, the verdict among them
+--   NoOtherNumber         a call is refused with none but these ("never otherwise": document 01).
 --                         proofs/NoOther.antt proves it
 use Rattle.std.specs.Prelude.{◌≡◌, ◌↔◌, ◌⊎◌, ℕ, ◌*◌, ◌^◌, ◌≤◌, ◌<◌, length, get_or}
 use mathlib.Core.List.{List, [], ◌∷◌, Memᴰ as Member}

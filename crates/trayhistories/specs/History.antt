@@ -2,25 +2,25 @@
 -- "The board and its calls", bands in the part of chunks). A list has the LAST call first. Nothing
 -- here looks at a state.
 --
---   rowThere h, columnThere h   the row rule and the column rule that are there: that of the last
+--   row_there h, column_there h  the row rule and the column rule that are there: that of the last
 --                               accepted installation of each, if there is one
---   row_in h, columnIn h         the same, or zeros
---   lacksRuleIn h               either rule is absent
---   openNumber h w n            the number with which an opening is refused: 20, 38, 10
---   Size, boardThere h          the width and the number of bands of the board that is there: those
+--   row_in h, column_in h        the same, or zeros
+--   lacks_rule_in h             either rule is absent
+--   open_number h w n           the number with which an opening is refused: 20, 38, 10
+--   Size, board_there h         the width and the number of bands of the board that is there: those
 --                               of the last accepted opening, if no accepted installation of either
 --                               rule came after it
---   width_in h, bandsIn h        the same; 0 where no board is there
---   deliverCheck, withdrawCheck    the number with which a delivery and a withdrawal at band p are
+--   width_in h, bands_in h       the same; 0 where no board is there
+--   deliver_check, withdraw_check  the number with which a delivery and a withdrawal at band p are
 --                                  refused, by the rules' symbols, the board and what stands at p
 --   standing h p                the bytes last accepted at band p since that opening and not
 --                               withdrawn since, or none
---   deliverNumber, withdrawNumber  21, 11, 39, 13, 22 and 21, 11, 23 after the calls h
---   emptiesIn h                 how many bands are empty
---   rows_at h p, rowsThere h     the rows of the standing band p, and of all in their order
---   yes_in h, verdictIn h        every row and every column is accepted; the verdict
+--   deliver_number, withdraw_number  21, 11, 39, 13, 22 and 21, 11, 23 after the calls h
+--   empties_in h                how many bands are empty
+--   rows_at h p, rows_there h    the rows of the standing band p, and of all in their order
+--   yes_in h, verdict_in h       every row and every column is accepted; the verdict
 --   answer_of h c                what document 02 answers to the call c after the calls h
---   answersTo h                 its answers to all calls of the list
+--   answers_to h                its answers to all calls of the list
 use Rattle.std.specs.Prelude.{Bool, cond, ◌&&◌, ◌||◌, List, [], ◌∷◌, ℕ, eqb}
 use Rattle.std.proofs.Math.Option.{Option, none, some}
 use Rattle.base.specs.Conditions.{first_of}

@@ -2,8 +2,8 @@
 -- document 01, which accepts the texts that end in 0 1, and `even_rule`, which accepts those of even
 -- length; both have the symbols 0 and 1. proofs/Examples.antt proves the claim.
 --
---   anyRule            a rule of three symbols that accepts every text
---   noStates           a rule without states, which is refused with 3
+--   any_rule           a rule of three symbols that accepts every text
+--   no_states          a rule without states, which is refused with 3
 --   ruled row column   both rules are installed; like all lists of calls, the last call first
 --   case row column calls more   the calls after `ruled row column`, and the replies to them
 --   lists              the list

@@ -1,7 +1,7 @@
 -- What reading the bytes of a line into the lent buffer leaves for the call. Assumes nothing.
 --
---   file-malformed, file-put        the ways through a file, for the rows or for the columns
---   deliver-malformed, deliver-put  the ways through a delivery
+--   file_malformed, file_put        the ways through a file, for the rows or for the columns
+--   deliver_malformed, deliver_put  the ways through a delivery
 use mathlib.Core.Path.{◌≡◌, ap, ◌∙◌}
 use mathlib.Core.Bool.{Bool, true, false}
 use mathlib.Core.List.{List}

@@ -1,8 +1,8 @@
 -- A file or a band that is too long is refused by its length alone, so the first of its bytes stand
 -- for all. Assumes nothing.
 --
---   rows_long, columns-long      a file that is too long
---   many-rows, delivers-long     a band that is
+--   rows_long, columns_long      a file that is too long
+--   many_rows, delivers_long     a band that is
 --   clip        where two that are too long come to the same, the first bytes, one more than the most
 --               at least, come to what all of them come to
 use mathlib.Core.Path.{◌≡◌, refl, ap}

@@ -2,7 +2,7 @@
 --
 --   unread, installs          a file that reading refuses, and one whose rule is installed: whatever
 --                             an installation leaves
---   file-unread, row_read, column-read   of a file for the rows, and of one for the columns
+--   file_unread, row_read, column_read   of a file for the rows, and of one for the columns
 use mathlib.Core.Path.{◌≡◌, sym, ap, ◌∙◌}
 use mathlib.Core.Bool.{Bool, true, false}
 use mathlib.Core.List.{List}

@@ -1,16 +1,16 @@
 -- The outcome of a line on a tray.
 --
---   bytesRoom              room for the bytes that a line carries: one more than a rule file has at
+--   bytes_room             room for the bytes that a line carries: one more than a rule file has at
 --                          most, and so many more than a band
---   loadRowOf, loadColumnOf   the outcome of a rule file for the rows and for the columns: read, and
+--   load_row_of, load_column_of  the outcome of a rule file for the rows and for the columns: read, and
 --                          then installed, with document 01's numbers 1 to 9 (`load_number`). It is no
 --                          call
---   fileBy, load_of         either, with the side as a parameter
+--   file_by, load_of        either, with the side as a parameter
 --   LineOutcome            the outcome of a line: what it is answered, and the tray that it leaves
---   replyOf o              the outcome of a line that makes a call or has a file, from the call's or
+--   reply_of o             the outcome of a line that makes a call or has a file, from the call's or
 --                          the file's
---   lineStep t m           the outcome of a line of the meaning m on the tray t
---   runOutcome r           the outcome that the code's result stands for
+--   line_step t m          the outcome of a line of the meaning m on the tray t
+--   run_outcome r          the outcome that the code's result stands for
 --   Scratch before after   all that holds of a buffer that is lent for the bytes of a line: its length
 --                          stays
 use Rattle.std.specs.Prelude.{◌≡◌, Bool, true, false, List, ℕ, ◌+◌, length}

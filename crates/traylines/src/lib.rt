@@ -1,5 +1,7 @@
 // Runs the call that a line of `trayjudge` makes on a tray, or reads the rule file that it has and
 // installs the rule.
+#![tactic(auto)]
+
 ghost use Rattle.std.specs.Prelude.{◌≡◌, ◌≤◌, length};
 ghost use Rattle.std.proofs.Math.Option.{some};
 ghost use Rattle.fields.specs.Bytes.{parse_bytes};

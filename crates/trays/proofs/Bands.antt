@@ -2,13 +2,13 @@
 -- and clearing are, and how many bands are empty. Assumes the lengths of the arrays (`Sized`), which
 -- a new board has and every change keeps.
 --
---   band-own, band-other     the cells once a band is stored: its own, and those of any other
+--   band_own, band_other     the cells once a band is stored: its own, and those of any other
 --   Sized                    the lengths of the arrays
---   sized-empty, empty-all, empty-rows   a new board: all bands empty, no rows
+--   sized_empty, empty_all, empty_rows   a new board: all bands empty, no rows
 --   Changed                  one band has been changed, and the others are as before
 --   filled_at_lem, cleared_at    filling and clearing change their band alone, and to what
---   few-rows, rows_fit       a band that 39 lets pass has at most 64 rows, and these fit its cells
---   empty-law, held-law      the empty bands and the rows held, from what is known of each band
+--   few_rows, rows_fit       a band that 39 lets pass has at most 64 rows, and these fit its cells
+--   empty_law, held_law      the empty bands and the rows held, from what is known of each band
 use mathlib.Core.Path.{◌≡◌, refl, sym, ap, ◌∙◌}
 use mathlib.Core.Bool.{Bool, true, false, cond, not}
 use mathlib.Core.List.{List, []}

@@ -2,11 +2,11 @@
 -- the tests decide acceptance. Assumes nothing.
 --
 --   rows_none               no row
---   rows-law, column-law    the claims: where each event stands
---   bands-law               and where each row of a band stands among those of all bands
+--   rows_law, column_law    the claims: where each event stands
+--   bands_law               and where each row of a band stands among those of all bands
 --   rows_same               rows depend on their bytes alone
---   up-to-same              the rows of bands, from those of each
---   rows_pass_lem, columns-pass, passes-law   the tests decide it
+--   up_to_same              the rows of bands, from those of each
+--   rows_pass_lem, columns_pass_lem, passes_law  the tests decide it
 use mathlib.Core.Path.{◌≡◌, refl, sym, ap, ap₂, ◌∙◌, subst}
 use mathlib.Core.Logic.{◌↔◌, ⊎_elim}
 use mathlib.Core.Bool.{true, and-eq-true_iff}

@@ -2,7 +2,7 @@
 --
 --   by_cases      what `verdict_by` gives, for any of the three facts that it looks at; a list of
 --                 calls has them too
---   verdict-law   the claim
+--   verdict_law   the claim
 use mathlib.Core.Path.{◌≡◌, refl}
 use mathlib.Core.Logic.{◌↔◌}
 use mathlib.Core.Bool.{Bool, true, false}

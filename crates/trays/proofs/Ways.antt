@@ -1,13 +1,13 @@
 -- Each way out of each call's definition: the facts that lead there, in the order in which the code
 -- finds them, and the answer. Assumes nothing.
 --
---   fresh-by                                              fresh
---   unchecked, unbuilt, built                             installAnswer
---   install-refused, install-accepted                     installOf
---   open-20, open-38, open-10, opened                     openOf
---   deliver-21, -11, -39, -13, -22, delivered             deliverOf
---   withdraw-21, withdraw-11, withdraw-23, withdrawn      withdrawOf
---   verdict-21, verdict-waiting, verdict-yes, verdict-no  verdictOf
+--   fresh_by                                              fresh
+--   unchecked, unbuilt, built                             install_answer
+--   install_refused, install_accepted                     install_of
+--   open_20, open_38, open_10, opened                     open_of
+--   deliver_21, -11, -39, -13, -22, delivered             deliver_of
+--   withdraw_21, withdraw_11, withdraw_23, withdrawn      withdraw_of
+--   verdict_21, verdict_waiting, verdict_yes, verdict_no  verdict_of
 use mathlib.Core.Path.{◌≡◌, refl, sym, ap, ◌∙◌}
 use mathlib.Core.Bool.{Bool, true, false, cond, not}
 use mathlib.Core.List.{List}

@@ -3,17 +3,17 @@
 -- bands above 8 counts as 8, one of rows above 64 as 64, and a width outside 1 to 16 as the nearest
 -- of these. So a row is never cut off, and nothing is read beyond the cells.
 --
---   width_of b, bandsOf b   how many events a row has, and how many bands there are
---   countIn rows p         how many rows band p has, by the array of these numbers
---   bandIn w rows cells p  the rows of band p, by the board's arrays
---   bandRows b p           the rows of band p
+--   width_of b, bands_of b  how many events a row has, and how many bands there are
+--   count_in rows p        how many rows band p has, by the array of these numbers
+--   band_in w rows cells p  the rows of band p, by the board's arrays
+--   band_rows b p          the rows of band p
 --   is_empty b p            band p is not there
---   emptyBoard w n         n bands of rows of w events, all empty; `empty_board 0 0` is no board
---   bandSet cells p bytes  the cells with those of band p having the bytes, and zeros behind them
---   filledAt b p bytes     band p has the bytes, which may be none
---   clearedAt b p          band p is empty, with no rows and zeros
---   emptyBands b           how many bands are empty
---   rowsHeld b             the rows of all bands, in their order
+--   empty_board w n        n bands of rows of w events, all empty; `empty_board 0 0` is no board
+--   band_set cells p bytes  the cells with those of band p having the bytes, and zeros behind them
+--   filled_at b p bytes    band p has the bytes, which may be none
+--   cleared_at b p         band p is empty, with no rows and zeros
+--   empty_bands b          how many bands are empty
+--   rows_held b            the rows of all bands, in their order
 use Rattle.std.specs.Prelude.{Bool, cond, List, [], ℕ, ◌*◌, ◌/◌, ◌%◌, min, max, eqb, length, get_or, set, replicate, drop}
 use Rattle.base.specs.Lists.{list_from}
 use Rattle.base.specs.Totals.{total}

@@ -5,11 +5,11 @@
 --
 --   Call               the installations of the row rule and of the column rule, open, deliver,
 --                      withdraw and verdict, with what they are given
---   notRows w b        39: the bytes b are not whole rows of w events, or over 64 of them
---   foreignTo kr kc b  13: a byte at or above either rule's k. There are no idle marks
---   openConditions, deliverConditions, withdrawConditions   20, 38, 10; 21, 11, 39, 13, 22;
+--   not_rows w b       39: the bytes b are not whole rows of w events, or over 64 of them
+--   foreign_to kr kc b  13: a byte at or above either rule's k. There are no idle marks
+--   open_conditions, deliver_conditions, withdraw_conditions  20, 38, 10; 21, 11, 39, 13, 22;
 --                                                           21, 11, 23
---   verdictBy          what a verdict says: by whether no board is there, the number of empty bands,
+--   verdict_by         what a verdict says: by whether no board is there, the number of empty bands,
 --                      and whether every row and every column is accepted
 use Rattle.std.specs.Prelude.{Bool, cond, not, ◌||◌, List, [], ◌∷◌, ℕ, ◌/◌, ◌%◌, ltb, leb, eqb, length}
 use Rattle.base.specs.Conditions.{Condition, on, outside}

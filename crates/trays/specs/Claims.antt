@@ -2,7 +2,7 @@
 --
 --   RowsLaw w n b       which event of the bytes b stands where in the n rows
 --   ColumnLaw c rows    which event stands where in column c
---   rowsBelow at p      how many rows the bands below band p have
+--   rows_below at p     how many rows the bands below band p have
 --   BandsLaw at n       which row of which band stands where in all rows of n bands: the bands follow
 --                       each other by their numbers
 --   Unchanged           a refusal changes nothing

@@ -2,17 +2,17 @@
 --
 --   Judgement            what a verdict says; it has no count
 --     waiting e          e bands are empty
---     saysYes, saysNo    yes, no
---     refusedWith x      the call was refused with the number x
+--     says_yes, says_no  yes, no
+--     refused_with x     the call was refused with the number x
 --   Reply                what is answered to a call
 --     accepted           of opening, delivering and withdrawing
 --     installed sets m   a rule was installed: the number of sets and M
 --     judged v           a verdict was asked for: it is v
 --     refused x          a call other than the verdict was refused with the number x
---   refusalIn v, refusalOf a   the number of the refusal, or none where v or a is none
---   replyBy number a     refused with the number, or a where there is none
---   withSets r           what the installation of the rule r is answered where it is accepted
---   installMeans, callMeans, verdictMeans   what each case of the code's answers says
+--   refusal_in v, refusal_of a  the number of the refusal, or none where v or a is none
+--   reply_by number a    refused with the number, or a where there is none
+--   with_sets r          what the installation of the rule r is answered where it is accepted
+--   install_means, call_means, verdict_means  what each case of the code's answers says
 use Rattle.std.proofs.Math.Option.{Option, none, some}
 use Rattle.std.specs.Prelude.{ℕ, length}
 use Rattle.automaton.specs.declared.Rule.{Rule}

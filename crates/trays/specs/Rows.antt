@@ -3,13 +3,13 @@
 -- list of its events. Nothing here looks at a state.
 --
 --   rows_of w n b      n rows of w events each, as they stand one after the other in the bytes b
---   rowsIn w b        the rows of w events that the bytes b are, which are whole rows
---   rowsUpTo at n     the rows `at 0`, `at 1`, .. `at (n − 1)`, one after the other: those of bands,
+--   rows_in w b       the rows of w events that the bytes b are, which are whole rows
+--   rows_up_to at n   the rows `at 0`, `at 1`, .. `at (n − 1)`, one after the other: those of bands,
 --                     by the numbers of the bands
---   columnOf c rows   column c: the event at c of each row, from the first tick to the last; the
+--   column_of c rows  column c: the event at c of each row, from the first tick to the last; the
 --                     empty text where there are no rows
 --   accepted r w      the test that the rule r accepts the text w
---   rowsPass, columnsPass   the tests that each row, each of the first columns is accepted
+--   rows_pass, columns_pass  the tests that each row, each of the first columns is accepted
 --   passes row column w rows   the test for yes
 --   AllAccepted       the same in the paper's words, by accepting runs of document 000's automata:
 --                     every row and every column is accepted. `passes_law` of specs/Claims.antt

@@ -1,11 +1,11 @@
 -- The limits of a tray (document 02, R-13), and the sizes of arrays that follow from them.
 -- src/lib.rt has them for code.
 --
---   mostWidth    the most events of a row
---   mostBands    the most bands of a tray
---   mostRows     the most rows of a band
---   bandCells    the most bytes of a band, and the cells that are kept for each
---   trayCells    the cells of a tray's bands
+--   most_width   the most events of a row
+--   most_bands   the most bands of a tray
+--   most_rows    the most rows of a band
+--   band_cells   the most bytes of a band, and the cells that are kept for each
+--   tray_cells   the cells of a tray's bands
 use Rattle.std.specs.Prelude.{ℕ, ◌*◌}
 
 abbrev pub most_width : ℕ

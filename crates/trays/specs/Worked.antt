@@ -1,6 +1,6 @@
 -- Rows worked by hand: one list, and one claim over it. proofs/Examples.antt proves the claim.
 --
---   evenRule                 a rule of two symbols that accepts the texts of even length
+--   even_rule                a rule of two symbols that accepts the texts of even length
 --   case row column w rows   rows of w events, by the two rules; whether all are accepted
 --   trays                    the list
 --   Answered cases           each is answered as it says

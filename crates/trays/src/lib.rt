@@ -1,5 +1,7 @@
 // The state of a tray (document 02, R-13) and the answers of its calls. The outcome of each call is
 // in specs/; crates/traycalls has the calls.
+#![tactic(auto)]
+
 use automaton::Rule;
 use base::Answer;
 use build::BuildAnswer;

@@ -1,7 +1,7 @@
 -- What the functions do with a line that is held is what the definitions say. Assumes nothing.
 --
 --   ran, stray              a line that has ended, by what the bytes left out are
---   held-state, held-text   the tray that a line leaves and whether the list has ended, and its answer
+--   held_state, held_text   the tray that a line leaves and whether the list has ended, and its answer
 use mathlib.Core.Path.{◌≡◌, ap, ◌∙◌, subst}
 use mathlib.Core.Bool.{Bool, true, false}
 use mathlib.Core.List.{List}

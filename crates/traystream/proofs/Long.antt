@@ -3,8 +3,8 @@
 -- alike. Assumes nothing.
 --
 --   Tells a b      a line of the meaning a has the outcome of a line of the meaning b
---   stray-call     the rest is not hex digits: the line is malformed
---   hex-line       the rest is hex digits, even in number: the line comes to what its first bytes
+--   stray_call     the rest is not hex digits: the line is malformed
+--   hex_line       the rest is hex digits, even in number: the line comes to what its first bytes
 --                  come to
 --   told           so 65,821 bytes tell lines apart
 use mathlib.Core.Path.{◌≡◌, refl, ap, ◌∙◌}

@@ -1,6 +1,6 @@
 -- Every line is answered by the calls before it. Assumes nothing.
 --
---   row-file, column-file   the line of a file, on any tray: its rule is installed, or nothing is done
+--   row_file_lem, column_file_lem  the line of a file, on any tray: its rule is installed, or nothing is done
 --   FollowsLine h m         after the calls h the answer to a line of the meaning m is the right one, and
 --                           the tray that it leaves is the one after the calls with the line's own
 --   right                   so are all answers to lines

@@ -1,17 +1,17 @@
 -- A text of lines for `trayjudge`, that comes in blocks.
 --
---   trayRoom      the bytes in which lines are told apart: `column ` and two hex digits for each byte
+--   tray_room     the bytes in which lines are told apart: `column ` and two hex digits for each byte
 --                 of a file that is too long. A band that is too long is told by fewer
---   toldAs o      the outcome of a line, with its answer as text; a malformed line ends its list
---   trayList      what comes of a line in a list that goes on
---   trayLines     the machine that answers lines
---   fileCall, fileResponse   the same for the line of a file, by the number with which reading refuses it
---   historyAfter h m    the calls since the last empty line: h, and then a line of the meaning m; the
+--   told_as o     the outcome of a line, with its answer as text; a malformed line ends its list
+--   tray_list     what comes of a line in a list that goes on
+--   tray_lines    the machine that answers lines
+--   file_call, file_response  the same for the line of a file, by the number with which reading refuses it
+--   history_after h m   the calls since the last empty line: h, and then a line of the meaning m; the
 --                       line of a file is the installation of its rule, or no call where reading
 --                       refuses it. None where a malformed line ended the list: no call is made until
 --                       an empty line
---   rightResponse h m   the right answer to a line of the meaning m after the calls h
---   rightText h ls      the right answer to each line, after the calls h and the lines before it
+--   right_response h m  the right answer to a line of the meaning m after the calls h
+--   right_text h ls     the right answer to each line, after the calls h and the lines before it
 use Rattle.std.specs.Prelude.{List, [], ◌∷◌, ℕ, ◌+◌, ◌*◌}
 use Rattle.std.proofs.Math.Option.{Option, none, some}
 use Rattle.ruleformat.specs.Refusals.{refusal}

@@ -1,12 +1,12 @@
 -- Texts worked by hand: a line that was cut in two, and samples/tray.calls. They are the bytes of the
 -- files and of what docs/PROGRAMS.md prints, not the words of the definitions.
 --
---   cutText      `verdict`, `verd`, `ict`, `verdict`, an empty line, `verdict`
---   cutAnswers   `refused 21`, `malformed`, `skipped`, `skipped`, an empty line, `refused 21`
---   sampleText      `row HEX`, `column HEX`, `open 3 2`, `verdict`, `deliver 1 000000`,
+--   cut_text     `verdict`, `verd`, `ict`, `verdict`, an empty line, `verdict`
+--   cut_answers  `refused 21`, `malformed`, `skipped`, `skipped`, an empty line, `refused 21`
+--   sample_text     `row HEX`, `column HEX`, `open 3 2`, `verdict`, `deliver 1 000000`,
 --                   `deliver 0 010000000100`, `verdict`, `withdraw 1`, `verdict`,
 --                   `deliver 1 000001`, `verdict`, `deliver 1 0000`
---   sampleAnswers   `accepted 2 2`, `accepted 2 2`, `accepted`, `waiting 2`, `accepted`, `accepted`,
+--   sample_answers  `accepted 2 2`, `accepted 2 2`, `accepted`, `waiting 2`, `accepted`, `accepted`,
 --                   `yes`, `accepted`, `waiting 1`, `accepted`, `no`, `refused 39`
 use Rattle.std.specs.Prelude.{List, [], ◌∷◌, ◌++◌, ℕ}
 

@@ -1,4 +1,6 @@
 // Answers the lines of a text for `trayjudge` that comes in blocks, cut anywhere.
+#![tactic(auto)]
+
 ghost use Rattle.std.specs.Prelude.{◌≡◌, ◌+◌, ◌≤◌, length};
 ghost use Rattle.text.specs.Writing.{Wrote};
 ghost use Rattle.longlines.specs.Holding.{held_meaning};

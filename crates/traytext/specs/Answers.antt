@@ -2,12 +2,12 @@
 --
 --   Response          what a line is answered: a fresh tray began, a call was replied to, or the line
 --                     is malformed
---   isMalformed s     the line is malformed
---   judgementText v   the line of a verdict: `waiting E`, `yes`, `no`, `refused N`
---   replyText a       the line of a reply: `accepted`, `accepted SETS M`, a verdict, `refused N`
---   responseText s    the line of any answer: an empty one where a fresh tray began
---   mostAnswer        the most bytes of an answer: `accepted`, a number of 16 bits and one of 8
---   answerMeans r     what each case of the code's answer says
+--   is_malformed s    the line is malformed
+--   judgement_text v  the line of a verdict: `waiting E`, `yes`, `no`, `refused N`
+--   reply_text a      the line of a reply: `accepted`, `accepted SETS M`, a verdict, `refused N`
+--   response_text s   the line of any answer: an empty one where a fresh tray began
+--   most_answer       the most bytes of an answer: `accepted`, a number of 16 bits and one of 8
+--   answer_means r    what each case of the code's answer says
 use Rattle.std.specs.Prelude.{Bool, true, false, List, [], ◌∷◌, ℕ}
 use Rattle.answers.specs.Answers.{line_of, accepted_word, waiting_word, refused_text, malformed_text}
 use Rattle.trays.specs.Replies.{Judgement, waiting, says_yes, says_no, refused_with, Reply, accepted, installed, judged, refused, install_means, call_means, verdict_means}

@@ -5,17 +5,17 @@
 --   Meaning            of a line
 --     again            a fresh tray begins
 --     call c           the call c is made
---     rowFile f        the file f is to be read and its rule installed for the rows, which is no call
+--     row_file f       the file f is to be read and its rule installed for the rows, which is no call
 --                      by itself
---     columnFile f     the same for the columns
+--     column_file f    the same for the columns
 --     malformed        it means nothing
 --   …-word             the word with which a line begins
 --   …By, …Fields       the meaning, from what the fields say; of two fields the second is what stands
 --                      behind the first space, where there is one
 --   call_in w           what the line w means, where it is not empty
---   lineIn w           what the line w means
---   lineMeans w r      what each case of the code's answer says of the line w
---   bytesFrom r        the index from which on the bytes are still to be read
+--   line_in w          what the line w means
+--   line_means w r     what each case of the code's answer says of the line w
+--   bytes_from r       the index from which on the bytes are still to be read
 --   Parsed w r         r is the right answer for the line w
 use Rattle.std.specs.Prelude.{◌≡◌, cond, List, [], ◌∷◌, ℕ, ◌≤◌, eqb, length, drop}
 use Rattle.std.proofs.Math.Option.{Option, none, some}

@@ -1,5 +1,7 @@
 // Between the text of a list of a tray's calls and the calls: what a line means, and how its answer
 // is written.
+#![tactic(auto)]
+
 ghost use Rattle.std.specs.Prelude.{◌≡◌, List, ℕ, ◌≤◌, length, drop};
 ghost use Rattle.text.specs.Writing.{Wrote};
 ghost use Rattle.lines.specs.Splitting.{up_to, past};

@@ -2,15 +2,15 @@
 -- nothing.
 --
 --   text-step            the set after a text, by its first byte that is left
---   room-step            behind a row there is room for those that are left
---   row-fails, row-passes    the rows of a band, by the first that is left
---   event-step           the set after a column, by the first row that is left
---   column-done, rows-done   no row is left
---   pass-append, column-append   rows behind others, and a column through them
---   pass-more, column-on, pass-fails   one band more, and a band that fails
---   columns-more, columns-fail   one column more, and a column that fails
---   band-fits            a band's rows are within the cells
---   some-row-fails, rows-decided   both rules, over the whole board
+--   room_step            behind a row there is room for those that are left
+--   row_fails, row_passes    the rows of a band, by the first that is left
+--   event_step           the set after a column, by the first row that is left
+--   column_done, rows_done   no row is left
+--   pass_append, column_append   rows behind others, and a column through them
+--   pass_more, column_on, pass_fails   one band more, and a band that fails
+--   columns_more, columns_fail   one column more, and a column that fails
+--   band_fits            a band's rows are within the cells
+--   some_row_fails, rows_decided   both rules, over the whole board
 use mathlib.Core.Path.{◌≡◌, refl, sym, ap, ap₂, ◌∙◌}
 use mathlib.Core.Logic.{⊎_elim}
 use mathlib.Core.Bool.{Bool, true, false, not, ◌&&◌, and_assoc, and-false}

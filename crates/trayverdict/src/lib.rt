@@ -1,5 +1,7 @@
 // Whether every row and every column of a tray is accepted. A row and a column is walked from the
 // set of initial states, successor by successor; a column goes on from band to band.
+#![tactic(auto)]
+
 ghost use Rattle.std.specs.Prelude.{◌≡◌, ◌+◌, ◌*◌, ◌≤◌, ◌<◌, length, drop};
 ghost use Rattle.automaton.specs.Successor.{after};
 ghost use Rattle.trays.specs.Sizes.{most_width, most_bands, tray_cells};

@@ -1,4 +1,6 @@
 // What the verdict of a judge is, and what is reported with it.
+#![tactic(auto)]
+
 ghost use Rattle.std.specs.Prelude.{◌≡◌};
 ghost use Rattle.calls.specs.Replies.{verdict_means, report_means};
 ghost use Rattle.calls.specs.Calls.{per_byte, alone, report_by};

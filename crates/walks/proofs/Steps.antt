@@ -1,22 +1,22 @@
 -- The laws of a walk by any step. Assumes nothing.
 --
---   end-append, end-split, end_more         over two parts, and one byte more
+--   end_append, end_split, end_more         over two parts, and one byte more
 --   count-append, count_most, count_left    the same of what is counted; at most one for a byte
---   count-on, count-off                     what is left to be counted, by the next step
---   looked-most, looked-empty, looked-some  what is looked up: at most each byte; nothing from the
+--   count_on, count_off                     what is left to be counted, by the next step
+--   looked_most, looked_empty, looked_some  what is looked up: at most each byte; nothing from the
 --                                           empty set; else the first byte
---   looked-next, looked-left                what is left to be looked up
---   looked-within, looked-take              no more than the bytes after which the set is empty; as
+--   looked_next, looked_left                what is left to be looked up
+--   looked_within, looked_take              no more than the bytes after which the set is empty; as
 --                                           much of so many bytes alone
---   end-through, count-through, looked-through   a walk by other numbers for the same sets
+--   end_through, count_through, looked_through   a walk by other numbers for the same sets
 --
 -- Where the step leads to no number above `empty`, and from `empty` nowhere else:
 --
 --   end_low, end_empty, end_stays       no walk leads above; the empty set stays empty
---   count-empty, count-alive            it counts nothing; a walk that is alive in the end counted
+--   count_empty, count_alive            it counts nothing; a walk that is alive in the end counted
 --                                       each byte
---   looked-append, looked-alive, looked-from    what is looked up over two parts
---   end-looked, end-still               what is not looked up changes nothing
+--   looked_append, looked_alive, looked_from    what is looked up over two parts
+--   end_looked, end_still               what is not looked up changes nothing
 use mathlib.Core.Path.{◌≡◌, refl, sym, ap, ◌∙◌}
 use mathlib.Core.Bool.{false}
 use mathlib.Core.List.{List, [], ◌∷◌, ◌++◌}

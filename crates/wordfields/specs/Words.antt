@@ -3,9 +3,9 @@
 --
 --   word_at b i         the number i that the bytes b stand for; 0 behind the last
 --   words_of most b     `most` numbers
---   parseWords most w  what the field w says: at most `most` numbers; none where it is no field of
+--   parse_words most w  what the field w says: at most `most` numbers; none where it is no field of
 --                      bytes, an odd number of them or more
---   wordsMean known words   what the code's result says
+--   words_mean known words  what the code's result says
 use Rattle.std.specs.Prelude.{Bool, cond, ◌&&◌, List, ℕ, ◌+◌, ◌*◌, ◌%◌, eqb, leb, length, get_or}
 use Rattle.std.proofs.Math.Option.{Option, none, some}
 use Rattle.base.specs.Lists.{list_from}

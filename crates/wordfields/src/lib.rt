@@ -1,5 +1,7 @@
 // Reads a field of 16-bit numbers, little-endian in hex digits, into an array; zeros stand behind
 // them.
+#![tactic(auto)]
+
 ghost use Rattle.std.specs.Prelude.{◌≡◌, ◌+◌, ◌*◌, ◌%◌, ◌≤◌, length, replicate};
 ghost use Rattle.limits.specs.Limits.{most_sets, table_cells};
 ghost use Rattle.wordfields.specs.Words.{words_of, parse_words, words_mean};

@@ -1,8 +1,7 @@
 -- `put_line` meets its contract. Assumes nothing.
 use Prim.Native.Nat.{◌-◌}
-use borrow.Author.Rules.{rules}
 use lib.ListN.{length}
-use Rattle.answers.proofs.Lines.{SoFar, word_room, byte_room, begun, room_for, one_more, ended}
+use Rattle.answers.proofs.Lines.{SoFar}
 use Rattle.answers.proofs.put_line.Given as goal
 
 abbrev pub invariant-loop-i : goal.invariant-loop-i

@@ -1,7 +1,6 @@
 -- `put_refused` meets its contract. Assumes nothing.
 use native.Mathlib.Omega.{arith}
 use Rattle.answers.proofs.Lengths.{refused_most}
-use borrow.Author.Rules.{rules}
 use Rattle.answers.proofs.put_refused.Goals as goal
 
 pub put_line-requires : goal.put_line-requires

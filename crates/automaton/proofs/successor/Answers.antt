@@ -4,7 +4,7 @@
 use mathlib.Core.Path.{◌≡◌, refl, sym, ap, ◌∙◌}
 use mathlib.Core.Logic.{⊎_elim}
 use mathlib.Core.List.{List}
-use Prim.Native.Nat.{ℕ, ◌+◌, ◌-◌, ◌*◌, ◌/◌, ◌^◌, ◌≤◌, ◌<◌}
+use Prim.Native.Nat.{ℕ, ◌+◌, ◌*◌, ◌/◌, ◌^◌, ◌≤◌, ◌<◌}
 use native.Mathlib.Nat.{div-one, div-eq_of_lt, eq-or-lt_of_le}
 use native.Mathlib.Omega.{arith}
 use lib.Bits.{bit_or}
@@ -64,12 +64,12 @@ loop-rest-preserved c =
       omega (arith, state-left c.before),
       ap (λ (y : ℕ). y / 2) x.invariant.2 ∙ shr-shr a.set x.q 1,
       (elim c.if-rest-eq1.branch [
-      then-rest-eq1 w ↦ w.out-is
-          ∙ ap (λ (y : ℕ). bit_or y (get_or a.targets.now (x.q * 16 + a.symbol) 0)) x.invariant.3
-          ∙ ap (bit_or (union f a.set x.q)) (cell a.targets.now x.q a.symbol x.invariant.0)
-          ∙ union_step f a.set x.q (rw x.invariant.2 at w.if-rest-eq1.true)
-      | else-rest-eq1 w ↦ w.out-is ∙ x.invariant.3 ∙ union_skip f a.set x.q (rw x.invariant.2 at w.if-rest-eq1.false)
-    ]),
+        | then-rest-eq1 w ↦ w.out-is
+            ∙ ap (λ (y : ℕ). bit_or y (get_or a.targets.now (x.q * 16 + a.symbol) 0)) x.invariant.3
+            ∙ ap (bit_or (union f a.set x.q)) (cell a.targets.now x.q a.symbol x.invariant.0)
+            ∙ union_step f a.set x.q (rw x.invariant.2 at w.if-rest-eq1.true)
+        | else-rest-eq1 w ↦ w.out-is ∙ x.invariant.3 ∙ union_skip f a.set x.q (rw x.invariant.2 at w.if-rest-eq1.false)
+      ]),
     )
 
 pub returns : goal.returns

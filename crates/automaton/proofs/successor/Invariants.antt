@@ -1,21 +1,10 @@
 -- `successor` meets its contract. The loop goes through the bits from state 0 up: what is left of
 -- the set is the set shifted by q, and `out` is the union over the members below q. It ends where
 -- no bit is left, which is so at 32 at the latest. Assumes nothing.
-use mathlib.Core.Path.{◌≡◌, refl, sym, ap, ◌∙◌}
-use mathlib.Core.Logic.{⊎_elim}
-use mathlib.Core.List.{List}
-use Prim.Native.Nat.{ℕ, ◌+◌, ◌-◌, ◌*◌, ◌/◌, ◌^◌, ◌≤◌, ◌<◌}
-use native.Mathlib.Nat.{div-one, div-eq_of_lt, eq-or-lt_of_le}
-use native.Mathlib.Omega.{arith}
-use lib.Bits.{bit_or}
-use lib.ListN.{get_or}
-use lib.Pow.{shr-shr}
-use borrow.Author.Rules.{rules}
-use borrow.Author.Tests.{lt-ltb}
+use mathlib.Core.Path.{◌≡◌}
+use Prim.Native.Nat.{◌-◌, ◌/◌, ◌^◌, ◌≤◌, ◌<◌}
 use Rattle.masks.specs.Masks.{union}
-use Rattle.masks.proofs.Laws.{low_bits, union_step, union_skip, union_all}
 use Rattle.automaton.specs.Rules.{target_mask}
-use Rattle.automaton.proofs.Laws.{successor_foreign}
 use Rattle.automaton.proofs.successor.Given as goal
 
 abbrev pub invariant-loop-rest : goal.invariant-loop-rest

@@ -1,10 +1,9 @@
 -- `count_of` meets its contract: i is what was counted, and the rest is counted from where the run
 -- stands. Assumes nothing.
 use mathlib.Core.Path.{◌≡◌, ap}
-use Prim.Native.Nat.{◌+◌, ◌-◌, ◌≤◌, ◌<◌}
+use Prim.Native.Nat.{◌+◌, ◌≤◌, ◌<◌}
 use native.Mathlib.Omega.{arith}
-use borrow.Author.Rules.{rules}
-use lib.ListN.{length, get_or, drop}
+use lib.ListN.{get_or, drop}
 use Rattle.walks.proofs.Steps.{count_on, count_off, count_left}
 use Rattle.lanes.specs.mirror.Offsets.{hop_of, row_count}
 use Rattle.lanes.proofs.Offsets.{hop_low, hop_stays}

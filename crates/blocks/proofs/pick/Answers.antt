@@ -1,9 +1,8 @@
 -- `pick` meets its contract. Assumes nothing.
-use mathlib.Core.Path.{◌≡◌, refl, ◌∙◌}
-use Prim.Native.Nat.{ℕ, ◌-◌, ◌≤◌, ◌<◌}
+use mathlib.Core.Path.{refl, ◌∙◌}
+use Prim.Native.Nat.{ℕ}
 use native.Mathlib.Omega.{arith}
-use borrow.Author.Rules.{rules}
-use lib.ListN.{length, get_or, length-set, length-replicate}
+use lib.ListN.{get_or, length-set, length-replicate}
 use Rattle.base.proofs.Lists.{is_list_from, cell_stored}
 use Rattle.blocks.proofs.pick.Goals as goal
 

@@ -1,11 +1,9 @@
 -- `share` meets its contract. The loop's invariant is `Held`. Assumes nothing.
-use mathlib.Core.Path.{◌≡◌, ◌∙◌}
-use mathlib.Core.Logic.{⊎_elim}
-use Prim.Native.Nat.{ℕ, ◌-◌, ◌/◌, ◌≤◌, ◌<◌}
+use mathlib.Core.Path.{◌∙◌}
+use Prim.Native.Nat.{ℕ, ◌/◌, ◌<◌}
 use native.Mathlib.Omega.{arith}
-use borrow.Author.Rules.{rules}
-use lib.ListN.{length, get_or, length-set, length-replicate}
-use Rattle.blocks.proofs.Lanes.{Held, held_none, held_old, held_new, shared}
+use lib.ListN.{get_or, length-set, length-replicate}
+use Rattle.blocks.proofs.Lanes.{held_none, held_old, held_new, shared}
 use Rattle.blocks.proofs.share.Goals.{else-k-used, then-k-used}
 use Rattle.blocks.proofs.share.Goals as goal
 
@@ -39,16 +37,16 @@ loop-j-preserved c =
     let rows = c.args.rows in
     let k = c.hinted-k in
     (elim c.if-k-used.branch [
-      then-k-used w ↦ (
-      omega arith,
-      rw (w.lane-is, w.used-is, w.if-k-used.true) (held_new rows l.lane l.of l.used l.j l.invariant.1 (omega arith)),
-      rw w.hints-is (length-set l.hints (get_or rows l.j 0 / 16) l.used ∙ l.invariant.2),
-    )
+      | then-k-used w ↦ (
+        omega arith,
+        rw (w.lane-is, w.used-is, w.if-k-used.true) (held_new rows l.lane l.of l.used l.j l.invariant.1 (omega arith)),
+        rw w.hints-is (length-set l.hints (get_or rows l.j 0 / 16) l.used ∙ l.invariant.2),
+      )
       | else-k-used w ↦ let less : k.result < l.used = omega (arith, k.ensures.0, w.if-k-used.false) in (
-      omega arith,
-      rw (w.lane-is, w.used-is) (held_old rows l.lane l.of l.used l.j l.invariant.1 (omega arith) k.result less (k.ensures.1 less)),
-      rw w.hints-is l.invariant.2,
-    )
+        omega arith,
+        rw (w.lane-is, w.used-is) (held_old rows l.lane l.of l.used l.j l.invariant.1 (omega arith) k.result less (k.ensures.1 less)),
+        rw w.hints-is l.invariant.2,
+      )
     ])
 
 pub returns : goal.returns

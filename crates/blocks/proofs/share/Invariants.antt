@@ -1,11 +1,8 @@
 -- `share` meets its contract. The loop's invariant is `Held`. Assumes nothing.
-use mathlib.Core.Path.{◌≡◌, ◌∙◌}
-use mathlib.Core.Logic.{⊎_elim}
-use Prim.Native.Nat.{ℕ, ◌-◌, ◌/◌, ◌≤◌, ◌<◌}
-use native.Mathlib.Omega.{arith}
-use borrow.Author.Rules.{rules}
-use lib.ListN.{length, get_or, length-set, length-replicate}
-use Rattle.blocks.proofs.Lanes.{Held, held_none, held_old, held_new, shared}
+use mathlib.Core.Path.{◌≡◌}
+use Prim.Native.Nat.{◌-◌, ◌≤◌}
+use lib.ListN.{length}
+use Rattle.blocks.proofs.Lanes.{Held}
 use Rattle.blocks.proofs.share.Given as goal
 
 abbrev pub invariant-loop-j : goal.invariant-loop-j

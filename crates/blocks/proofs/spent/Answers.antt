@@ -2,7 +2,6 @@
 use mathlib.Core.Path.{◌≡◌, sym}
 use Prim.Native.Nat.{◌<◌}
 use native.Mathlib.Omega.{arith}
-use borrow.Author.Rules.{rules}
 use Rattle.walks.proofs.Steps.{count_alive, count_empty}
 use Rattle.lanes.specs.mirror.Offsets.{hop_of, row_end}
 use Rattle.lanes.proofs.Offsets.{hop_low, hop_stays}

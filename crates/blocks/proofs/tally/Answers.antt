@@ -1,11 +1,10 @@
 -- `tally` meets its contract. The lanes from `used` on are empty, and count nothing. Assumes nothing.
-use mathlib.Core.Path.{◌≡◌, sym, ◌∙◌}
-use Prim.Native.Nat.{ℕ, ◌-◌, ◌≤◌, ◌<◌}
+use mathlib.Core.Path.{sym, ◌∙◌}
+use Prim.Native.Nat.{ℕ}
 use native.Mathlib.Omega.{arith}
-use borrow.Author.Rules.{rules}
 use borrow.Author.Tests.{ltb-true, ltb-false}
 use lib.Dec.{ltb}
-use lib.ListN.{length, get_or, length-set, length-replicate}
+use lib.ListN.{get_or, length-set, length-replicate}
 use lib.Seq.{get_or-set_other}
 use Rattle.base.proofs.Lists.{is_list_from, cell_stored, zero_cells}
 use Rattle.base.proofs.Tests.{by_test}
@@ -20,8 +19,7 @@ loop-k-init c = (omega arith, length-replicate {A = ℕ} 40 0, λ b h. absurd (o
 
 pub spent-requires : goal.spent-requires
 spent-requires c =
-    let l = c.loop-k in
-    (
+    let l = c.loop-k in (
       c.requires.0,
       c.requires.1.rows l.k,
       rw c.requires.2 (rows_at c.args.t.now c.args.part.now c.args.from.now 40 l.k (omega arith)),

@@ -1,18 +1,8 @@
 -- `tally` meets its contract. The lanes from `used` on are empty, and count nothing. Assumes nothing.
-use mathlib.Core.Path.{◌≡◌, sym, ◌∙◌}
+use mathlib.Core.Path.{◌≡◌}
 use Prim.Native.Nat.{ℕ, ◌-◌, ◌≤◌, ◌<◌}
-use native.Mathlib.Omega.{arith}
-use borrow.Author.Rules.{rules}
-use borrow.Author.Tests.{ltb-true, ltb-false}
-use lib.Dec.{ltb}
-use lib.ListN.{length, get_or, length-set, length-replicate}
-use lib.Seq.{get_or-set_other}
-use Rattle.base.proofs.Lists.{is_list_from, cell_stored, zero_cells}
-use Rattle.base.proofs.Tests.{by_test}
-use Rattle.walks.proofs.Steps.{count_empty}
-use Rattle.lanes.specs.mirror.Offsets.{hop_of, row_count}
-use Rattle.lanes.proofs.Offsets.{hop_low, hop_stays}
-use Rattle.lanes.proofs.Rows.{rows_at}
+use lib.ListN.{length, get_or}
+use Rattle.lanes.specs.mirror.Offsets.{row_count}
 use Rattle.blocks.proofs.tally.Given as goal
 
 abbrev pub invariant-loop-k : goal.invariant-loop-k

@@ -1,11 +1,7 @@
 -- `then` meets its contract. Assumes nothing.
-use mathlib.Core.Path.{◌≡◌, refl, ◌∙◌}
+use mathlib.Core.Path.{◌≡◌}
 use Prim.Native.Nat.{ℕ, ◌+◌, ◌-◌, ◌≤◌, ◌<◌}
-use native.Mathlib.Omega.{arith}
-use borrow.Author.Rules.{rules}
-use lib.ListN.{length, get_or, length-set, length-replicate}
-use Rattle.base.proofs.Lists.{is_list_from, cell_stored}
-use Rattle.blocks.proofs.Parts.{walked_is}
+use lib.ListN.{length, get_or}
 use Rattle.blocks.proofs.then.Given as goal
 
 abbrev pub invariant-loop-j : goal.invariant-loop-j

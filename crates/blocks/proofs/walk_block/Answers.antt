@@ -1,7 +1,6 @@
 -- `walk_block` meets its contract: the runs get lanes, the lanes walk, and each run takes its lane's
 -- end and count. Assumes nothing.
 use mathlib.Core.Path.{ap, ◌∙◌}
-use borrow.Author.Rules.{rules}
 use Rattle.blocks.specs.mirror.Blocks.{pick_of}
 use Rattle.blocks.proofs.Lanes.{ends_picked, counts_picked, looked_shared}
 use Rattle.blocks.proofs.Parts.{walked_is}

@@ -3,10 +3,9 @@
 use mathlib.Core.Path.{◌≡◌, sym, ◌∙◌}
 use Prim.Native.Nat.{ℕ, ◌+◌, ◌-◌, ◌≤◌, ◌<◌}
 use native.Mathlib.Omega.{arith}
-use borrow.Author.Rules.{rules}
 use lib.ListN.{get_or, take, drop, length-take, length-drop}
 use Rattle.lanes.specs.mirror.Offsets.{rows_end, rows_looked}
-use Rattle.blocks.proofs.Eights.{Walking, walking_start, walking_low, walking_more, walking_ends, walking_looked}
+use Rattle.blocks.proofs.Eights.{walking_start, walking_low, walking_more, walking_ends, walking_looked}
 use Rattle.blocks.proofs.walk_lanes.Goals as goal
 
 pub loop-from-init : goal.loop-from-init

@@ -1,11 +1,11 @@
 -- Up to 32 runs over a text, block by block. Runs that stand in the same set share a lane. Nothing
 -- here needs to be believed: the crate chunks ties it to the next-set table.
 --
---   walkedOf t w rows   where the text w leads from each of 32 row offsets, what each of the runs
+--   walked_of t w rows  where the text w leads from each of 32 row offsets, what each of the runs
 --                       counts, and for how many bytes any of them looks a successor up
---   thenOf x y          two parts of a text, one after the other: the rows of the second; counts
+--   then_of x y         two parts of a text, one after the other: the rows of the second; counts
 --                       and bytes looked up are summed
---   laneRoom            the most lanes: eight that stay empty, and one for each run
+--   lane_room           the most lanes: eight that stay empty, and one for each run
 --   pick_of of l         for each run what the list l has for its lane
 --   InUse lane used     the lanes have row offsets, and from `used` on they are empty
 --   Shared rows ..      lane `of` j has the row offset of run j, and no lane has any but those of

@@ -1,7 +1,6 @@
 -- `clear` meets its contract. Assumes nothing.
 use mathlib.Core.Path.{◌≡◌, ◌∙◌}
 use lib.ListN.{get_or, replicate, get_or-replicate}
-use borrow.Author.Rules.{rules}
 use Rattle.board.specs.Boards.{row_set, cleared_at}
 use Rattle.board.proofs.Rows.{row_same}
 use Rattle.board.proofs.clear.Goals as goal

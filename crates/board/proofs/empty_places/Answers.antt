@@ -1,5 +1,4 @@
 -- `empty_places` meets its contract. Assumes nothing.
-use borrow.Author.Rules.{rules}
 use Rattle.board.proofs.empty_places.Goals as goal
 
 pub returns : goal.returns

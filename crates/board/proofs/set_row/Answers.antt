@@ -1,9 +1,7 @@
 -- `set_row` meets its contract: the first q cells of the place's row are stored. Assumes nothing.
-use Prim.Native.Nat.{◌-◌, ◌≤◌, ◌<◌}
 use native.Mathlib.Omega.{arith}
 use lib.ListN.{get_or}
-use borrow.Author.Rules.{rules}
-use Rattle.board.proofs.Rows.{Stored, none_stored, one_stored, row_stored}
+use Rattle.board.proofs.Rows.{none_stored, one_stored, row_stored}
 use Rattle.board.proofs.set_row.Goals as goal
 
 pub loop-q-init : goal.loop-q-init

@@ -1,10 +1,9 @@
 -- `sum_up` meets its contract: the numbers before p are summed, and each is below 2 ^ 32. Assumes
 -- nothing.
 use mathlib.Core.Path.{◌≡◌, refl, sym, ap₂, ◌∙◌}
-use Prim.Native.Nat.{ℕ, ◌+◌, ◌*◌, ◌-◌, ◌≤◌}
+use Prim.Native.Nat.{ℕ, ◌+◌}
 use native.Mathlib.Omega.{arith}
 use lib.ListN.{get_or}
-use borrow.Author.Rules.{rules}
 use Rattle.base.specs.Totals.{total}
 use Rattle.base.proofs.Totals.{total_more}
 use Rattle.board.proofs.sum_up.Goals as goal

@@ -1,5 +1,4 @@
 -- `summed` meets its contract. Assumes nothing.
-use borrow.Author.Rules.{rules}
 use Rattle.board.proofs.summed.Goals as goal
 
 pub returns : goal.returns

@@ -1,6 +1,5 @@
 -- `build_rule` meets its contract. Assumes nothing.
 use native.Mathlib.Omega.{arith}
-use borrow.Author.Rules.{rules}
 use Rattle.build.proofs.Numbered.{at_most_512, whole, too_many_lem}
 use Rattle.build.proofs.build_rule.Goals as goal
 

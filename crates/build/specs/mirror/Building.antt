@@ -1,14 +1,14 @@
 -- What building a rule answers (document 01, "Load: check and build a rule", of which this is the
 -- part after the rule is checked).
 --
---   BuildReply, buildMeans   document 01's answer: accepted with the number of sets and M, or
+--   BuildReply, build_means  document 01's answer: accepted with the number of sets and M, or
 --                            refused with a number; and what each case of the code's answer says
---   builtOf r      the rule r built: its sets, its next-set table, its delegates and M, and what
+--   built_of r     the rule r built: its sets, its next-set table, its delegates and M, and what
 --                  running needs
---   noBuilt        zeros, which a refusal carries
---   Outcome, buildOutcome   the outcome of building: the answer, and the built rule; and
+--   no_built       zeros, which a refusal carries
+--   Outcome, build_outcome  the outcome of building: the answer, and the built rule; and
 --                           the outcome that the code's result stands for
---   buildOf r      the outcome of building the rule r
+--   build_of r     the outcome of building the rule r
 use Rattle.std.specs.Prelude.{cond, List, ℕ, min, length, replicate}
 use Rattle.limits.specs.Limits.{most_states, most_symbols, most_sets, table_cells}
 use Rattle.automaton.specs.declared.Rule.{Rule}

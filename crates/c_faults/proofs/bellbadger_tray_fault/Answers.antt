@@ -1,5 +1,4 @@
 -- `bellbadger_tray_fault` meets its contract. Assumes nothing.
-use borrow.Author.Rules.{rules}
 use Rattle.c_faults.proofs.Numbers.{fault_shown_lem}
 use Rattle.c_faults.proofs.bellbadger_tray_fault.Goals as goal
 

@@ -1,6 +1,5 @@
 -- `bellbadger_follow_by` meets its contract. Assumes nothing.
 use mathlib.Core.Path.{ap, ◌∙◌}
-use borrow.Author.Rules.{rules}
 use Rattle.c_follow.specs.Numbers.{follow_shown}
 use Rattle.c_follow.proofs.bellbadger_follow_by.Goals as goal
 

@@ -1,6 +1,5 @@
 -- `bellbadger_follower_prepare` meets its contract. Assumes nothing.
 use mathlib.Core.Path.{ap}
-use borrow.Author.Rules.{rules}
 use Rattle.c_follow.specs.Numbers.{prepare_shown}
 use Rattle.c_follow.proofs.bellbadger_follower_prepare.Goals as goal
 

@@ -1,6 +1,5 @@
 -- `bellbadger_form` meets its contract. Assumes nothing.
 use mathlib.Core.Path.{ap}
-use borrow.Author.Rules.{rules}
 use Rattle.c_form.specs.Numbers.{form_shown}
 use Rattle.c_form.proofs.bellbadger_form.Goals as goal
 

@@ -1,6 +1,5 @@
 -- `bellbadger_form_back` meets its contract. Assumes nothing.
 use mathlib.Core.Path.{ap}
-use borrow.Author.Rules.{rules}
 use Rattle.c_form.specs.Numbers.{table_shown}
 use Rattle.c_form.proofs.bellbadger_form_back.Goals as goal
 

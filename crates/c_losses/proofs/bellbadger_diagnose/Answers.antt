@@ -1,5 +1,4 @@
 -- `bellbadger_diagnose` meets its contract. Assumes nothing.
-use borrow.Author.Rules.{rules}
 use Rattle.c_losses.proofs.Numbers.{diagnosis_shown_lem}
 use Rattle.c_losses.proofs.bellbadger_diagnose.Goals as goal
 

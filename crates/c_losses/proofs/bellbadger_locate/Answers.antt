@@ -1,7 +1,6 @@
 -- `bellbadger_locate` meets its contract. Assumes nothing.
 use mathlib.Core.Path.{ap, ◌∙◌}
 use Prim.Native.Nat.{ℕ}
-use borrow.Author.Rules.{rules}
 use Rattle.locating.specs.Locating.{refused_for}
 use Rattle.c_losses.specs.Numbers.{spot_shown}
 use Rattle.c_losses.proofs.Numbers.{spot_shown_lem}

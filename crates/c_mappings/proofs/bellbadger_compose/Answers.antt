@@ -1,6 +1,5 @@
 -- `bellbadger_compose` meets its contract. Assumes nothing.
 use mathlib.Core.Path.{ap}
-use borrow.Author.Rules.{rules}
 use Rattle.c_mappings.specs.Numbers.{mapping_shown}
 use Rattle.c_mappings.proofs.bellbadger_compose.Goals as goal
 

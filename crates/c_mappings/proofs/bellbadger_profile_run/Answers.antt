@@ -1,6 +1,5 @@
 -- `bellbadger_profile_run` meets its contract. Assumes nothing.
 use mathlib.Core.Path.{ap}
-use borrow.Author.Rules.{rules}
 use Rattle.c_mappings.specs.Numbers.{run_shown}
 use Rattle.c_mappings.proofs.bellbadger_profile_run.Goals as goal
 

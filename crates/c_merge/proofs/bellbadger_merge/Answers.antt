@@ -1,6 +1,5 @@
 -- `bellbadger_merge` meets its contract. Assumes nothing.
 use mathlib.Core.Path.{ap, ◌∙◌}
-use borrow.Author.Rules.{rules}
 use Rattle.merging.specs.declared.Way.{Way}
 use Rattle.merging.specs.Merging.{merge_of}
 use Rattle.c_merge.specs.Numbers.{merge_shown}

@@ -1,5 +1,4 @@
 -- `in_numbers` meets its contract. Assumes nothing.
-use borrow.Author.Rules.{rules}
 use Rattle.c_merge.proofs.in_numbers.Goals as goal
 
 pub returns : goal.returns

@@ -1,6 +1,5 @@
 -- `bellbadger_merge_reduced` meets its contract. Assumes nothing.
 use mathlib.Core.Path.{ap, ◌∙◌}
-use borrow.Author.Rules.{rules}
 use Rattle.merging.specs.declared.Way.{Way}
 use Rattle.mergereduce.specs.MergeReduced.{merge_reduced_of}
 use Rattle.c_merge.specs.Numbers.{merge_shown}

@@ -1,7 +1,6 @@
 -- `bellbadger_pattern` meets its contract. Assumes nothing.
 use mathlib.Core.Path.{ap}
 use native.Mathlib.Omega.{arith}
-use borrow.Author.Rules.{rules}
 use Rattle.c_patterns.specs.Numbers.{pattern_shown}
 use Rattle.c_patterns.proofs.Numbers.{small}
 use Rattle.c_patterns.proofs.bellbadger_pattern.Goals as goal

@@ -1,6 +1,5 @@
 -- `bellbadger_reduce` meets its contract. Assumes nothing.
 use mathlib.Core.Path.{ap}
-use borrow.Author.Rules.{rules}
 use Rattle.c_reduce.specs.Numbers.{reduce_shown}
 use Rattle.c_reduce.proofs.bellbadger_reduce.Goals as goal
 

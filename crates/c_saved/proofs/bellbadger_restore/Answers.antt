@@ -1,6 +1,5 @@
 -- `bellbadger_restore` meets its contract. Assumes nothing.
 use mathlib.Core.Path.{ap}
-use borrow.Author.Rules.{rules}
 use Rattle.c_saved.specs.Numbers.{restore_shown}
 use Rattle.c_saved.proofs.bellbadger_restore.Goals as goal
 

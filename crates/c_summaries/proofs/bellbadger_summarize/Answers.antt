@@ -1,6 +1,5 @@
 -- `bellbadger_summarize` meets its contract. Assumes nothing.
 use mathlib.Core.Path.{ap}
-use borrow.Author.Rules.{rules}
 use Rattle.c_summaries.specs.Numbers.{summary_shown}
 use Rattle.c_summaries.proofs.bellbadger_summarize.Goals as goal
 

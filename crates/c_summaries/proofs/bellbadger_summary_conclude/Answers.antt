@@ -1,6 +1,5 @@
 -- `bellbadger_summary_conclude` meets its contract. Assumes nothing.
 use mathlib.Core.Path.{ap, ◌∙◌}
-use borrow.Author.Rules.{rules}
 use Rattle.c_summaries.specs.Numbers.{conclude_shown}
 use Rattle.c_summaries.proofs.bellbadger_summary_conclude.Goals as goal
 

@@ -1,5 +1,4 @@
 -- `bellbadger_make_text` meets its contract. Assumes nothing.
-use borrow.Author.Rules.{rules}
 use Rattle.c_texts.proofs.ReadBack.{makes}
 use Rattle.c_texts.proofs.bellbadger_make_text.Goals as goal
 

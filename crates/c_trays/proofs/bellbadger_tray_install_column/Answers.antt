@@ -1,6 +1,5 @@
 -- `bellbadger_tray_install_column` meets its contract. Assumes nothing.
 use mathlib.Core.Path.{ap, ◌∙◌}
-use borrow.Author.Rules.{rules}
 use Rattle.c_trays.specs.Numbers.{install_shown}
 use Rattle.c_trays.proofs.bellbadger_tray_install_column.Goals as goal
 

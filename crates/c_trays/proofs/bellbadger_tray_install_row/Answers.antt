@@ -1,6 +1,5 @@
 -- `bellbadger_tray_install_row` meets its contract. Assumes nothing.
 use mathlib.Core.Path.{ap, ◌∙◌}
-use borrow.Author.Rules.{rules}
 use Rattle.c_trays.specs.Numbers.{install_shown}
 use Rattle.c_trays.proofs.bellbadger_tray_install_row.Goals as goal
 

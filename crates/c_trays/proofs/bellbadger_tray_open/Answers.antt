@@ -1,6 +1,5 @@
 -- `bellbadger_tray_open` meets its contract. Assumes nothing.
 use mathlib.Core.Path.{ap, ◌∙◌}
-use borrow.Author.Rules.{rules}
 use Rattle.c_trays.specs.Numbers.{call_shown}
 use Rattle.c_trays.proofs.bellbadger_tray_open.Goals as goal
 

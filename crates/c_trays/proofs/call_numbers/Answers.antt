@@ -1,5 +1,4 @@
 -- `call_numbers` meets its contract. Assumes nothing.
-use borrow.Author.Rules.{rules}
 use Rattle.c_trays.proofs.Numbers.{call_shown_lem}
 use Rattle.c_trays.proofs.call_numbers.Goals as goal
 

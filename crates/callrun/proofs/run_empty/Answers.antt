@@ -1,6 +1,5 @@
 -- `run_empty` meets its contract. Assumes nothing.
 use mathlib.Core.Path.{ap}
-use borrow.Author.Rules.{rules}
 use Rattle.calls.specs.declared.Judge.{Judge}
 use Rattle.calltext.specs.Answers.{began}
 use Rattle.callrun.proofs.run_empty.Goals as goal

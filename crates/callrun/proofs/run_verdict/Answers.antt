@@ -2,7 +2,6 @@
 use mathlib.Core.Path.{ap}
 use Rattle.calls.specs.Replies.{Reported, judged}
 use Rattle.calltext.specs.Answers.{replied}
-use borrow.Author.Rules.{rules}
 use Rattle.callrun.proofs.run_verdict.Goals as goal
 
 pub returns : goal.returns

@@ -4,11 +4,11 @@
 -- says what that is after a list of calls.
 --
 --   fresh              no rule and no board: zeros
---   withRule r         the judge with the rule r and no board
---   installOf, load_of, openOf, deliverOf, withdrawOf   the outcomes of the calls that may change
+--   with_rule r        the judge with the rule r and no board
+--   install_of, load_of, open_of, deliver_of, withdraw_of  the outcomes of the calls that may change
 --                      the state; that of a load by document 01's numbers
---   verdictOf          what the verdict says
---   reportOf           what the call verdict reports
+--   verdict_of         what the verdict says
+--   report_of          what the call verdict reports
 --   step_of j c         the outcome of the call c on the state j
 use Rattle.std.specs.Prelude.{Bool, List, ℕ, eqb}
 use Rattle.std.proofs.Math.Option.{Option, none, some}

@@ -1,7 +1,6 @@
 -- `put_install` meets its contract. Assumes nothing.
 use mathlib.Core.List.{[], ◌∷◌}
 use native.Mathlib.Omega.{arith}
-use borrow.Author.Rules.{rules}
 use Rattle.answers.specs.Answers.{accepted_word}
 use Rattle.answers.proofs.Lengths.{line_short}
 use Rattle.calltext.proofs.put_install.Goals as goal

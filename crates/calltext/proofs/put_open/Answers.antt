@@ -1,5 +1,4 @@
 -- `put_open` meets its contract. Assumes nothing.
-use borrow.Author.Rules.{rules}
 use Rattle.calltext.proofs.put_open.Goals as goal
 
 pub returns-in-Accepted : goal.returns-in-Accepted

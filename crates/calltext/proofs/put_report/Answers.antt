@@ -1,7 +1,6 @@
 -- `put_report` meets its contract. Assumes nothing.
 use mathlib.Core.List.{[], ◌∷◌}
 use native.Mathlib.Omega.{arith}
-use borrow.Author.Rules.{rules}
 use Rattle.answers.specs.Answers.{waiting_word}
 use Rattle.answers.proofs.Lengths.{line_short}
 use Rattle.calltext.specs.Answers.{yes_word, no_word}

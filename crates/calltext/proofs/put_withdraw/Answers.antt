@@ -1,5 +1,4 @@
 -- `put_withdraw` meets its contract. Assumes nothing.
-use borrow.Author.Rules.{rules}
 use Rattle.calltext.proofs.put_withdraw.Goals as goal
 
 pub returns-in-Accepted : goal.returns-in-Accepted

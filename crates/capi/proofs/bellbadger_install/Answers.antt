@@ -1,6 +1,5 @@
 -- `bellbadger_install` meets its contract. Assumes nothing.
 use mathlib.Core.Path.{ap, ◌∙◌}
-use borrow.Author.Rules.{rules}
 use Rattle.capi.specs.Numbers.{install_shown}
 use Rattle.capi.proofs.bellbadger_install.Goals as goal
 

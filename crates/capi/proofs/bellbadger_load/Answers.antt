@@ -1,6 +1,5 @@
 -- `bellbadger_load` meets its contract. Assumes nothing.
 use mathlib.Core.Path.{ap, ◌∙◌}
-use borrow.Author.Rules.{rules}
 use Rattle.capi.specs.Numbers.{install_shown}
 use Rattle.capi.proofs.bellbadger_load.Goals as goal
 

@@ -1,6 +1,5 @@
 -- `bellbadger_read` meets its contract. Assumes nothing.
 use mathlib.Core.Path.{ap}
-use borrow.Author.Rules.{rules}
 use Rattle.capi.specs.Numbers.{read_shown}
 use Rattle.capi.proofs.bellbadger_read.Goals as goal
 

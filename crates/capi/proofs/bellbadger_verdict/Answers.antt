@@ -1,6 +1,5 @@
 -- `bellbadger_verdict` meets its contract. Assumes nothing.
 use mathlib.Core.Path.{ap, ◌∙◌}
-use borrow.Author.Rules.{rules}
 use Rattle.capi.specs.Numbers.{verdict_shown}
 use Rattle.capi.proofs.bellbadger_verdict.Goals as goal
 

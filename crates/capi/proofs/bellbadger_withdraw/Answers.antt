@@ -1,6 +1,5 @@
 -- `bellbadger_withdraw` meets its contract. Assumes nothing.
 use mathlib.Core.Path.{ap, ◌∙◌}
-use borrow.Author.Rules.{rules}
 use Rattle.capi.specs.Numbers.{call_shown}
 use Rattle.capi.proofs.bellbadger_withdraw.Goals as goal
 

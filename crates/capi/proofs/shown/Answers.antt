@@ -1,5 +1,4 @@
 -- `shown` meets its contract. Assumes nothing.
-use borrow.Author.Rules.{rules}
 use Rattle.capi.proofs.shown.Goals as goal
 
 pub returns : goal.returns

@@ -1,8 +1,7 @@
 -- `delegate_mask` meets its contract. The loop's invariant: the set has the delegates of the
 -- members below q. Assumes nothing.
 use mathlib.Core.Path.{◌≡◌, refl, sym, ap, ap₂, ◌∙◌}
-use mathlib.Core.Logic.{⊎_elim}
-use Prim.Native.Nat.{◌-◌, ◌≤◌, min}
+use Prim.Native.Nat.{min}
 use native.Mathlib.Omega.{arith}
 use borrow.Author.Rules.{rules}
 use lib.Bits.{bit_or}
@@ -23,12 +22,12 @@ loop-q-preserved c =
     let d = a.delegates in (
       search rules,
       (elim c.if-member.branch [
-      then-member w ↦ w.out-is
-          ∙ w.union-out.ensures
-          ∙ ap₂ bit_or l.invariant.1 w.delegate_single.ensures
-          ∙ union_member (λ p. of_delegate single (delegate_in d p)) a.set l.q (sym c.member.ensures ∙ w.if-member.true)
-      | else-member w ↦ w.out-is ∙ l.invariant.1 ∙ union_other (λ p. of_delegate single (delegate_in d p)) a.set l.q (sym c.member.ensures ∙ w.if-member.false)
-    ]),
+        | then-member w ↦ w.out-is
+            ∙ w.union-out.ensures
+            ∙ ap₂ bit_or l.invariant.1 w.delegate_single.ensures
+            ∙ union_member (λ p. of_delegate single (delegate_in d p)) a.set l.q (sym c.member.ensures ∙ w.if-member.true)
+        | else-member w ↦ w.out-is ∙ l.invariant.1 ∙ union_other (λ p. of_delegate single (delegate_in d p)) a.set l.q (sym c.member.ensures ∙ w.if-member.false)
+      ]),
     )
 
 pub returns : goal.returns

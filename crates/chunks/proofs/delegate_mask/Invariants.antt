@@ -1,12 +1,7 @@
 -- `delegate_mask` meets its contract. The loop's invariant: the set has the delegates of the
 -- members below q. Assumes nothing.
-use mathlib.Core.Path.{◌≡◌, refl, sym, ap, ap₂, ◌∙◌}
-use mathlib.Core.Logic.{⊎_elim}
+use mathlib.Core.Path.{◌≡◌}
 use Prim.Native.Nat.{◌-◌, ◌≤◌, min}
-use native.Mathlib.Omega.{arith}
-use borrow.Author.Rules.{rules}
-use lib.Bits.{bit_or}
-use Rattle.masks.proofs.Laws.{union_member, union_other}
 use Rattle.masks.specs.Masks.{single, union}
 use Rattle.delegates.specs.Alike.{delegate_in, of_delegate}
 use Rattle.chunks.proofs.delegate_mask.Given as goal

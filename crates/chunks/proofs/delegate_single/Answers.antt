@@ -1,5 +1,4 @@
 -- `delegate_single` meets its contract. Assumes nothing.
-use borrow.Author.Rules.{rules}
 use Rattle.delegates.proofs.Answer.{told_state, told_none}
 use Rattle.chunks.proofs.delegate_single.Goals as goal
 

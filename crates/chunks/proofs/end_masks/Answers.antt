@@ -1,9 +1,8 @@
 -- `end_masks` meets its contract. Assumes nothing.
-use mathlib.Core.Path.{◌≡◌, ap, ◌∙◌}
-use Prim.Native.Nat.{ℕ, ◌-◌, ◌/◌, ◌≤◌, ◌<◌}
+use mathlib.Core.Path.{ap, ◌∙◌}
+use Prim.Native.Nat.{ℕ, ◌/◌}
 use native.Mathlib.Omega.{arith}
-use borrow.Author.Rules.{rules}
-use lib.ListN.{length, get_or, length-set, length-replicate}
+use lib.ListN.{get_or, length-set, length-replicate}
 use Rattle.base.proofs.Lists.{is_list_from, cell_stored}
 use Rattle.chunks.specs.mirror.Walks.{mask_of}
 use Rattle.chunks.proofs.end_masks.Goals as goal

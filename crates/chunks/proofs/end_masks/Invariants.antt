@@ -1,10 +1,7 @@
 -- `end_masks` meets its contract. Assumes nothing.
-use mathlib.Core.Path.{◌≡◌, ap, ◌∙◌}
+use mathlib.Core.Path.{◌≡◌}
 use Prim.Native.Nat.{ℕ, ◌-◌, ◌/◌, ◌≤◌, ◌<◌}
-use native.Mathlib.Omega.{arith}
-use borrow.Author.Rules.{rules}
-use lib.ListN.{length, get_or, length-set, length-replicate}
-use Rattle.base.proofs.Lists.{is_list_from, cell_stored}
+use lib.ListN.{length, get_or}
 use Rattle.chunks.specs.mirror.Walks.{mask_of}
 use Rattle.chunks.proofs.end_masks.Given as goal
 

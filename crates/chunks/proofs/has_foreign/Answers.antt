@@ -1,12 +1,7 @@
 -- `has_foreign` meets its contract. The loop's invariant: the chunk has a foreign byte exactly
 -- where one was found or one is left. Assumes nothing.
-use mathlib.Core.Path.{◌≡◌, refl, sym, ◌∙◌}
-use mathlib.Core.Logic.{⊎_elim}
-use mathlib.Core.Bool.{◌||◌}
-use Prim.Native.Nat.{◌-◌, ◌≤◌}
+use mathlib.Core.Path.{refl, sym, ◌∙◌}
 use borrow.Author.Rules.{rules}
-use lib.ListN.{length, drop}
-use Rattle.chunks.specs.Chunks.{foreign}
 use Rattle.chunks.proofs.Texts.{foreign_here, foreign_on, foreign_none}
 use Rattle.chunks.proofs.has_foreign.Goals.{else-k-chunk, then-k-chunk}
 use Rattle.chunks.proofs.has_foreign.Goals as goal
@@ -21,9 +16,9 @@ loop-i-preserved c =
     let h = c.loop-i-test.true in (
       search rules,
       (elim c.if-k-chunk.branch [
-      then-k-chunk w ↦ rw w.found-is (l.invariant.1 ∙ foreign_here a.chunk.now a.k l.i l.found h w.if-k-chunk.true)
-      | else-k-chunk w ↦ rw w.found-is (l.invariant.1 ∙ foreign_on a.chunk.now a.k l.i l.found h w.if-k-chunk.false)
-    ]),
+        | then-k-chunk w ↦ rw w.found-is (l.invariant.1 ∙ foreign_here a.chunk.now a.k l.i l.found h w.if-k-chunk.true)
+        | else-k-chunk w ↦ rw w.found-is (l.invariant.1 ∙ foreign_on a.chunk.now a.k l.i l.found h w.if-k-chunk.false)
+      ]),
     )
 
 pub returns : goal.returns

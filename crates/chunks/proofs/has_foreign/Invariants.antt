@@ -1,13 +1,10 @@
 -- `has_foreign` meets its contract. The loop's invariant: the chunk has a foreign byte exactly
 -- where one was found or one is left. Assumes nothing.
-use mathlib.Core.Path.{◌≡◌, refl, sym, ◌∙◌}
-use mathlib.Core.Logic.{⊎_elim}
+use mathlib.Core.Path.{◌≡◌}
 use mathlib.Core.Bool.{◌||◌}
 use Prim.Native.Nat.{◌-◌, ◌≤◌}
-use borrow.Author.Rules.{rules}
 use lib.ListN.{length, drop}
 use Rattle.chunks.specs.Chunks.{foreign}
-use Rattle.chunks.proofs.Texts.{foreign_here, foreign_on, foreign_none}
 use Rattle.chunks.proofs.has_foreign.Given as goal
 
 abbrev pub invariant-loop-i : goal.invariant-loop-i

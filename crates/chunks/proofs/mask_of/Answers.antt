@@ -1,6 +1,5 @@
 -- `mask_of` meets its contract. Assumes nothing.
 use borrow.Author.Tests.{lt-ltb, le-ltb}
-use borrow.Author.Rules.{rules}
 use Rattle.chunks.proofs.mask_of.Goals as goal
 
 pub returns-then-i-lt-SETS : goal.returns-then-i-lt-SETS

@@ -1,7 +1,6 @@
 -- `run_chunk` meets its contract: from no state, zeros. Assumes nothing.
 use mathlib.Core.Path.{sym, ap, ◌∙◌}
 use Prim.Native.Nat.{ℕ}
-use borrow.Author.Rules.{rules}
 use Rattle.chunks.specs.mirror.Walks.{runs_of}
 use Rattle.chunks.proofs.Running.{runs_none}
 use Rattle.chunks.proofs.run_chunk.Goals as goal

@@ -1,7 +1,6 @@
 -- `run_mask` meets its contract. Assumes nothing.
 use mathlib.Core.Path.{◌∙◌}
 use Rattle.chunks.proofs.Starts.{run_first, run_later}
-use borrow.Author.Rules.{rules}
 use Rattle.chunks.proofs.run_mask.Goals as goal
 
 pub returns-then-place-eq0 : goal.returns-then-place-eq0

@@ -1,8 +1,7 @@
 -- `start_mask` meets its contract. The loop's invariant: the set has the starts below q. Assumes
 -- nothing.
 use mathlib.Core.Path.{◌≡◌, refl, ap, ap₂, ◌∙◌}
-use mathlib.Core.Logic.{⊎_elim}
-use Prim.Native.Nat.{◌-◌, ◌≤◌, min}
+use Prim.Native.Nat.{min}
 use native.Mathlib.Omega.{arith}
 use borrow.Author.Rules.{rules}
 use lib.Bits.{bit_or}
@@ -21,9 +20,9 @@ loop-q-preserved c =
     let d = c.args.delegates in (
       search rules,
       (elim c.if-delegates-i.branch [
-      then-delegates-i w ↦ w.starts-is ∙ w.union-starts.ensures ∙ ap₂ bit_or l.invariant.1 w.singleton.ensures ∙ start_more d l.q w.if-delegates-i.true
-      | else-delegates-i w ↦ w.starts-is ∙ l.invariant.1 ∙ start_other d l.q w.if-delegates-i.false
-    ]),
+        | then-delegates-i w ↦ w.starts-is ∙ w.union-starts.ensures ∙ ap₂ bit_or l.invariant.1 w.singleton.ensures ∙ start_more d l.q w.if-delegates-i.true
+        | else-delegates-i w ↦ w.starts-is ∙ l.invariant.1 ∙ start_other d l.q w.if-delegates-i.false
+      ]),
     )
 
 pub returns : goal.returns

@@ -1,13 +1,8 @@
 -- `start_mask` meets its contract. The loop's invariant: the set has the starts below q. Assumes
 -- nothing.
-use mathlib.Core.Path.{◌≡◌, refl, ap, ap₂, ◌∙◌}
-use mathlib.Core.Logic.{⊎_elim}
+use mathlib.Core.Path.{◌≡◌}
 use Prim.Native.Nat.{◌-◌, ◌≤◌, min}
-use native.Mathlib.Omega.{arith}
-use borrow.Author.Rules.{rules}
-use lib.Bits.{bit_or}
 use Rattle.delegates.specs.Alike.{start_set}
-use Rattle.chunks.proofs.Starts.{start_more, start_other}
 use Rattle.chunks.proofs.start_mask.Given as goal
 
 abbrev pub invariant-loop-q : goal.invariant-loop-q

@@ -1,11 +1,9 @@
 -- `start_rows` meets its contract. The cells from q on are still the empty set's. Assumes nothing.
 use mathlib.Core.Path.{◌≡◌, sym, ◌∙◌}
-use mathlib.Core.Logic.{⊎_elim}
-use Prim.Native.Nat.{ℕ, ◌-◌, ◌≤◌, ◌<◌}
+use Prim.Native.Nat.{ℕ}
 use native.Mathlib.Omega.{arith}
 use borrow.Author.Count.{below_more}
-use borrow.Author.Rules.{rules}
-use lib.ListN.{length, get_or, length-set, length-replicate, get_or-replicate}
+use lib.ListN.{get_or, length-set, length-replicate, get_or-replicate}
 use lib.Seq.{get_or-set_other}
 use Rattle.base.proofs.Lists.{is_list_from, cell_stored}
 use Rattle.chunks.proofs.Running.{start_row}
@@ -22,18 +20,18 @@ loop-q-preserved c =
     let mask = c.args.mask in
     let m = c.member.ensures in
     (elim c.if-member.branch [
-      then-member w ↦ let v = w.row_of in (
-      omega arith,
-      rw w.rows-is (length-set l.rows l.q v.result ∙ l.invariant.1),
-      rw w.rows-is (cell_stored l.rows (start_row singles mask) l.q v.result (omega (arith, l.invariant.1)) (v.ensures ∙ rw (sym m ∙ w.if-member.true)) l.invariant.2),
-      λ p h b. rw w.rows-is (get_or-set_other l.rows l.q p v.result 0 (λ e. omega arith) ∙ l.invariant.3 p (omega arith) b),
-    )
+      | then-member w ↦ let v = w.row_of in (
+        omega arith,
+        rw w.rows-is (length-set l.rows l.q v.result ∙ l.invariant.1),
+        rw w.rows-is (cell_stored l.rows (start_row singles mask) l.q v.result (omega (arith, l.invariant.1)) (v.ensures ∙ rw (sym m ∙ w.if-member.true)) l.invariant.2),
+        λ p h b. rw w.rows-is (get_or-set_other l.rows l.q p v.result 0 (λ e. omega arith) ∙ l.invariant.3 p (omega arith) b),
+      )
       | else-member w ↦ (
-      omega arith,
-      rw w.rows-is l.invariant.1,
-      rw w.rows-is (below_more (λ p. get_or l.rows p 0 ≡ start_row singles mask p) l.q l.invariant.2 (l.invariant.3 l.q (omega arith) (omega arith) ∙ rw (sym m ∙ w.if-member.false))),
-      λ p h b. rw w.rows-is (l.invariant.3 p (omega arith) b),
-    )
+        omega arith,
+        rw w.rows-is l.invariant.1,
+        rw w.rows-is (below_more (λ p. get_or l.rows p 0 ≡ start_row singles mask p) l.q l.invariant.2 (l.invariant.3 l.q (omega arith) (omega arith) ∙ rw (sym m ∙ w.if-member.false))),
+        λ p h b. rw w.rows-is (l.invariant.3 p (omega arith) b),
+      )
     ])
 
 pub returns : goal.returns

@@ -1,13 +1,7 @@
 -- `start_rows` meets its contract. The cells from q on are still the empty set's. Assumes nothing.
-use mathlib.Core.Path.{◌≡◌, sym, ◌∙◌}
-use mathlib.Core.Logic.{⊎_elim}
+use mathlib.Core.Path.{◌≡◌}
 use Prim.Native.Nat.{ℕ, ◌-◌, ◌≤◌, ◌<◌}
-use native.Mathlib.Omega.{arith}
-use borrow.Author.Count.{below_more}
-use borrow.Author.Rules.{rules}
-use lib.ListN.{length, get_or, length-set, length-replicate, get_or-replicate}
-use lib.Seq.{get_or-set_other}
-use Rattle.base.proofs.Lists.{is_list_from, cell_stored}
+use lib.ListN.{length, get_or}
 use Rattle.chunks.proofs.Running.{start_row}
 use Rattle.chunks.proofs.start_rows.Given as goal
 

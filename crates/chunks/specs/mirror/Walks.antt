@@ -3,17 +3,17 @@
 -- comes to for a built rule. Any number from 512 on stands for the empty set.
 --
 --   step_of next i b       the set to which the byte b leads from set i
---   walkEnd, walkCount    the number of the set after the bytes w, and how many of the steps led to
+--   walk_end, walk_count  the number of the set after the bytes w, and how many of the steps led to
 --                         a set that is not empty
---   walkLooked            for how many of the bytes w a cell of the table is read
+--   walk_looked           for how many of the bytes w a cell of the table is read
 --   mask_of sets i         the mask of set i
---   runsOf ..             the end set of each state that is run, as an array, the sum of the
+--   runs_of ..            the end set of each state that is run, as an array, the sum of the
 --                         counts, the number of text bytes, and those for which any run looks a
 --                         successor up
---   startRows singles run   the row offset of {q} for each state q that is run; the empty set's for
+--   start_rows singles run  the row offset of {q} for each state q that is run; the empty set's for
 --                         the others
---   endMasks sets rows    the masks of the sets that the row offsets stand for
---   delegateMask, runMask   delegateSet and runSet for at most 32 states: a number above counts as
+--   end_masks sets rows   the masks of the sets that the row offsets stand for
+--   delegate_mask, run_mask  delegate_set and run_set for at most 32 states: a number above counts as
 --                           that
 use Rattle.std.specs.Prelude.{cond, List, ℕ, ◌/◌, ◌%◌, min, ltb, length, get_or}
 use Rattle.limits.specs.Limits.{most_states, most_symbols, empty_set}

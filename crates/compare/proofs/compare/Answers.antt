@@ -1,6 +1,5 @@
 -- `compare` meets its contract: the first rule is refused, the second, the two, or they are searched.
 -- Assumes nothing.
-use borrow.Author.Rules.{rules}
 use Rattle.compare.proofs.Ways.{compare_first, compare_second, compare_36, compare_both}
 use Rattle.compare.proofs.compare.Goals as goal
 

@@ -1,5 +1,4 @@
 -- `differs` meets its contract. Assumes nothing.
-use borrow.Author.Rules.{rules}
 use Rattle.compare.proofs.Ways.{differ_first, differ_second}
 use Rattle.compare.proofs.differs.Goals as goal
 

@@ -1,12 +1,9 @@
 -- `first_apart` meets its contract. The invariant: no pair passed tells the two apart. Assumes
 -- nothing.
-use mathlib.Core.Path.{◌≡◌, sym, ◌∙◌}
+use mathlib.Core.Path.{sym, ◌∙◌}
 use mathlib.Core.Bool.{false}
-use Prim.Native.Nat.{ℕ, ◌-◌, ◌≤◌, ◌<◌}
 use native.Mathlib.Omega.{arith}
-use lib.ListN.{get_or}
 use borrow.Author.Count.{below_more}
-use borrow.Author.Rules.{rules}
 use Rattle.compare.specs.Search.{differs}
 use Rattle.searches.proofs.Cells.{where_found, where_none}
 use Rattle.compare.proofs.first_apart.Goals as goal

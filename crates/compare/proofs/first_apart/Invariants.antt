@@ -1,14 +1,10 @@
 -- `first_apart` meets its contract. The invariant: no pair passed tells the two apart. Assumes
 -- nothing.
-use mathlib.Core.Path.{◌≡◌, sym, ◌∙◌}
+use mathlib.Core.Path.{◌≡◌}
 use mathlib.Core.Bool.{false}
 use Prim.Native.Nat.{ℕ, ◌-◌, ◌≤◌, ◌<◌}
-use native.Mathlib.Omega.{arith}
 use lib.ListN.{get_or}
-use borrow.Author.Count.{below_more}
-use borrow.Author.Rules.{rules}
 use Rattle.compare.specs.Search.{differs}
-use Rattle.searches.proofs.Cells.{where_found, where_none}
 use Rattle.compare.proofs.first_apart.Given as goal
 
 abbrev pub invariant-loop-i : goal.invariant-loop-i

@@ -1,7 +1,5 @@
 -- `search_pairs` meets its contract, one way out at a time. Assumes nothing.
-use Prim.Native.Nat.{◌≤◌}
 use native.Mathlib.Omega.{arith}
-use borrow.Author.Rules.{rules}
 use Rattle.compare.proofs.Ways.{most, tabled, search_text, search_over, search_same}
 use Rattle.compare.proofs.search_pairs.Goals as goal
 

@@ -1,5 +1,4 @@
 -- `which_of` meets its contract. Assumes nothing.
-use borrow.Author.Rules.{rules}
 use Rattle.compare.specs.declared.Which.TheVariants.{First, Second}
 use Rattle.compare.proofs.Ways.{which_first, which_second}
 use Rattle.compare.proofs.which_of.Goals as goal

@@ -1,6 +1,5 @@
 -- `delegate_at` meets its contract. Assumes nothing.
 use mathlib.Core.Path.{sym}
-use borrow.Author.Rules.{rules}
 use Rattle.delegates.proofs.Alike.{said_some, said_none}
 use Rattle.delegates.proofs.delegate_at.Goals as goal
 

@@ -1,5 +1,4 @@
 -- `delegate_cell` meets its contract. Assumes nothing.
-use borrow.Author.Rules.{rules}
 use borrow.Author.Tests.{eq-eqb, ne_eqb}
 use Rattle.delegates.specs.mirror.Refinement.{class_of, cell_in}
 use Rattle.delegates.proofs.delegate_cell.Goals as goal

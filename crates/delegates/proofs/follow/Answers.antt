@@ -1,7 +1,6 @@
 -- `follow` meets its contract: a cell is read as the empty set from 512 on. Assumes nothing.
 use mathlib.Core.Path.{sym}
 use native.Mathlib.Omega.{arith}
-use borrow.Author.Rules.{rules}
 use Rattle.delegates.proofs.Classes.{follow_set, follow_empty}
 use Rattle.delegates.proofs.follow.Goals as goal
 

@@ -1,6 +1,5 @@
 -- `is_final` meets its contract. Assumes nothing.
 use mathlib.Core.Path.{sym, ◌∙◌}
-use borrow.Author.Rules.{rules}
 use Rattle.delegates.proofs.Classes.{final_set, final_empty}
 use Rattle.delegates.proofs.is_final.Goals as goal
 

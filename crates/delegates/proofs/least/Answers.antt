@@ -1,11 +1,9 @@
 -- `least` meets its contract. The loop's invariant: the search from t on finds what the whole
 -- search does. Assumes nothing.
-use mathlib.Core.Path.{◌≡◌, refl, sym, ◌∙◌}
+use mathlib.Core.Path.{refl, sym, ◌∙◌}
 use mathlib.Core.Bool.{Bool}
-use Prim.Native.Nat.{ℕ, ◌-◌}
+use Prim.Native.Nat.{ℕ}
 use native.Mathlib.Omega.{arith}
-use borrow.Author.Rules.{rules}
-use Rattle.delegates.specs.mirror.Classes.{first_from}
 use Rattle.delegates.specs.mirror.Refinement.{same_in, least_of}
 use Rattle.delegates.proofs.Tests.{first_here, first_past, first_end}
 use Rattle.delegates.proofs.least.Goals as goal

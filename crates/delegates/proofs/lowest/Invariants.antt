@@ -1,15 +1,10 @@
 -- `lowest` meets its contract. The loop's invariant: p is at most q, and the search from p on
 -- finds what the whole search does. Assumes nothing.
-use mathlib.Core.Path.{◌≡◌, sym, ap, ◌∙◌}
-use mathlib.Core.Bool.{Bool}
-use Prim.Native.Nat.{ℕ, ◌-◌, ◌≤◌}
-use native.Mathlib.Omega.{arith}
-use borrow.Author.Rules.{rules}
-use borrow.Author.Tests.{eq-eqb, ne_eqb}
+use mathlib.Core.Path.{◌≡◌}
+use Prim.Native.Nat.{◌-◌, ◌≤◌}
 use lib.Dec.{eqb}
 use Rattle.delegates.specs.mirror.Classes.{first_from}
 use Rattle.delegates.specs.mirror.Refinement.{class_of, first_in_class}
-use Rattle.delegates.proofs.Tests.{first_here, first_past, first_end}
 use Rattle.delegates.proofs.lowest.Given as goal
 
 abbrev pub invariant-loop-p : goal.invariant-loop-p

@@ -1,18 +1,16 @@
 -- `merge_starts` meets its contract. The loop's invariant is `Merging`. Assumes nothing.
 use mathlib.Core.Path.{◌≡◌, sym, ap, ◌∙◌}
-use mathlib.Core.Logic.{⊎_elim}
 use mathlib.Core.Bool.{cond}
 use mathlib.Core.List.{List}
-use Prim.Native.Nat.{ℕ, ◌+◌, ◌-◌, ◌≤◌, ◌<◌, min, zero-le}
+use Prim.Native.Nat.{ℕ, ◌+◌, ◌<◌, min, zero-le}
 use native.Mathlib.Nat.{add-zero, lt_of_lt_of_le, min-le_right}
 use native.Mathlib.Numerals.{add-one}
 use native.Mathlib.Omega.{arith}
-use borrow.Author.Rules.{rules}
 use borrow.Author.Tests.{eq-eqb, ne_eqb}
 use lib.Dec.{eqb}
 use lib.ListN.{set}
 use Rattle.delegates.specs.mirror.Refinement.{class_of, cell_in, classes_of}
-use Rattle.delegates.proofs.Merging.{Merging, class_at, begun, turned, all_merged}
+use Rattle.delegates.proofs.Merging.{class_at, begun, turned, all_merged}
 use Rattle.delegates.proofs.merge_starts.Goals.{else-delegate-q, then-delegate-q}
 use Rattle.delegates.proofs.merge_starts.Goals as goal
 
@@ -34,7 +32,7 @@ loop-q-preserved c =
     let below : l.q < min a.n 32 = rw c.at_most_u8-states.ensures at c.loop-q-test.true in
     let counted : c.if-delegate-q.starts ≡ l.starts + cond (eqb d.result l.q) 1 0 =
     (elim c.if-delegate-q.branch [
-      then-delegate-q w ↦ w.starts-is ∙ rw (eq-eqb d.result l.q w.if-delegate-q.true)
+      | then-delegate-q w ↦ w.starts-is ∙ rw (eq-eqb d.result l.q w.if-delegate-q.true)
       | else-delegate-q w ↦ w.starts-is ∙ rw (ne_eqb d.result l.q w.if-delegate-q.false) (sym (add-zero l.starts))
     ]) in (
       rw add-one below,

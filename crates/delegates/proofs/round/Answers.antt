@@ -1,15 +1,13 @@
 -- `round` meets its contract. The loop's invariant: each set passed has its new class, and
 -- `changed` tells whether that of one of them is another than its old one. Assumes nothing.
 use mathlib.Core.Path.{◌≡◌, refl, sym, ap, ◌∙◌}
-use mathlib.Core.Logic.{⊎_elim}
 use mathlib.Core.Bool.{Bool, not}
-use Prim.Native.Nat.{ℕ, ◌-◌, ◌≤◌, ◌<◌}
+use Prim.Native.Nat.{ℕ}
 use native.Mathlib.Omega.{arith}
 use borrow.Author.Count.{below_none}
-use borrow.Author.Rules.{rules}
 use borrow.Author.Tests.{eq-eqb, ne_eqb}
 use lib.Dec.{eqb}
-use lib.ListN.{length, length-set}
+use lib.ListN.{length-set}
 use Rattle.base.proofs.Lists.{cell_stored, is_list_from}
 use Rattle.delegates.specs.mirror.Classes.{every}
 use Rattle.delegates.specs.mirror.Refinement.{class_of, least_of}
@@ -35,9 +33,9 @@ loop-s-preserved c =
       simp length-set l.invariant.1,
       cell_stored l.new least l.s c.least-to.result.0 (omega arith) is l.invariant.2,
       (elim c.if-from-to.branch [
-      then-from-to w ↦ w.changed-is ∙ every_fails test l.s (ne_eqb (class_of a.class.now l.s) (least l.s) (λ e. w.if-from-to.true (e ∙ sym is)))
-      | else-from-to w ↦ w.changed-is ∙ l.invariant.3 ∙ ap not (every_more test l.s (eq-eqb (class_of a.class.now l.s) (least l.s) (w.if-from-to.false ∙ is)))
-    ]),
+        | then-from-to w ↦ w.changed-is ∙ every_fails test l.s (ne_eqb (class_of a.class.now l.s) (least l.s) (λ e. w.if-from-to.true (e ∙ sym is)))
+        | else-from-to w ↦ w.changed-is ∙ l.invariant.3 ∙ ap not (every_more test l.s (eq-eqb (class_of a.class.now l.s) (least l.s) (w.if-from-to.false ∙ is)))
+      ]),
     )
 
 pub returns : goal.returns

@@ -1,19 +1,12 @@
 -- `round` meets its contract. The loop's invariant: each set passed has its new class, and
 -- `changed` tells whether that of one of them is another than its old one. Assumes nothing.
-use mathlib.Core.Path.{◌≡◌, refl, sym, ap, ◌∙◌}
-use mathlib.Core.Logic.{⊎_elim}
-use mathlib.Core.Bool.{Bool, not}
+use mathlib.Core.Path.{◌≡◌}
+use mathlib.Core.Bool.{not}
 use Prim.Native.Nat.{ℕ, ◌-◌, ◌≤◌, ◌<◌}
-use native.Mathlib.Omega.{arith}
-use borrow.Author.Count.{below_none}
-use borrow.Author.Rules.{rules}
-use borrow.Author.Tests.{eq-eqb, ne_eqb}
 use lib.Dec.{eqb}
-use lib.ListN.{length, length-set}
-use Rattle.base.proofs.Lists.{cell_stored, is_list_from}
+use lib.ListN.{length}
 use Rattle.delegates.specs.mirror.Classes.{every}
 use Rattle.delegates.specs.mirror.Refinement.{class_of, least_of}
-use Rattle.delegates.proofs.Tests.{every_more, every_fails}
 use Rattle.delegates.proofs.round.Given as goal
 
 abbrev pub invariant-loop-s : goal.invariant-loop-s

@@ -1,13 +1,11 @@
 -- `same` meets its contract: its answer decides `Same`, as the test does. The loop's invariant: the
 -- successors by each symbol passed are in one class. Assumes nothing.
-use mathlib.Core.Path.{◌≡◌, sym, ap, ◌∙◌}
-use Prim.Native.Nat.{ℕ, ◌-◌, ◌≤◌, ◌<◌}
+use mathlib.Core.Path.{sym, ap, ◌∙◌}
+use Prim.Native.Nat.{◌≤◌}
 use native.Mathlib.Nat.{lt_of_lt_of_le}
 use native.Mathlib.Numerals.{add-one}
 use native.Mathlib.Omega.{arith}
 use borrow.Author.Count.{below_none, below_more}
-use borrow.Author.Rules.{rules}
-use Rattle.delegates.specs.mirror.Classes.{follow}
 use Rattle.delegates.specs.mirror.Refinement.{class_of}
 use Rattle.delegates.proofs.Tests.{confirmed, refuted, differ, agree}
 use Rattle.delegates.proofs.Classes.{follow_within, same_law}

@@ -1,18 +1,9 @@
 -- `same` meets its contract: its answer decides `Same`, as the test does. The loop's invariant: the
 -- successors by each symbol passed are in one class. Assumes nothing.
-use mathlib.Core.Path.{◌≡◌, sym, ap, ◌∙◌}
-use mathlib.Core.Logic.{◌↔◌}
-use mathlib.Core.Bool.{true}
+use mathlib.Core.Path.{◌≡◌}
 use Prim.Native.Nat.{ℕ, ◌-◌, ◌≤◌, ◌<◌}
-use native.Mathlib.Nat.{lt_of_lt_of_le}
-use native.Mathlib.Numerals.{add-one}
-use native.Mathlib.Omega.{arith}
-use borrow.Author.Count.{below_none, below_more}
-use borrow.Author.Rules.{rules}
 use Rattle.delegates.specs.mirror.Classes.{follow}
-use Rattle.delegates.specs.mirror.Refinement.{class_of, same_in}
-use Rattle.delegates.proofs.Tests.{confirmed, refuted, differ, agree}
-use Rattle.delegates.proofs.Classes.{follow_within, Same, same_law}
+use Rattle.delegates.specs.mirror.Refinement.{class_of}
 use Rattle.delegates.proofs.same.Given as goal
 
 abbrev pub invariant-loop-a : goal.invariant-loop-a

@@ -1,6 +1,6 @@
 -- What the lookup of a delegate answers.
 --
---   delegateMeans   the delegate that each case of the code's answer says
+--   delegate_means  the delegate that each case of the code's answer says
 use Rattle.std.proofs.Math.Option.{Option, none, some}
 use Rattle.std.specs.Prelude.{ℕ}
 use Rattle.delegates.specs.declared.DelegateAnswer.{DelegateAnswer}

@@ -8,18 +8,18 @@
 --   accepted .. s w       the text w leads from set s to a final set
 --   AlikeSets .. k s t    each text of symbols below k is accepted from both sets or from neither
 --   every n t             all numbers below n pass the test t
---   firstFrom t lo f      the first number from lo on that passes the test t, lo + f where none
+--   first_from t lo f     the first number from lo on that passes the test t, lo + f where none
 --                         below does
---   alikeTo .. k f s t    each text of fewer than f symbols below k is accepted from both sets or
+--   alike_to .. k f s t   each text of fewer than f symbols below k is accepted from both sets or
 --                         from neither
---   singleAt singles q    the set {q}
+--   single_at singles q   the set {q}
 --   live_of .. q           some text of 512 symbols or fewer tells {q} from the empty set; a longer
 --                         text is not needed (`Alike-at` of specs/Claims.antt)
---   lowestOf .. q         the lowest state whose set no text of 512 symbols or fewer tells from
+--   lowest_of .. q        the lowest state whose set no text of 512 symbols or fewer tells from
 --                         that of q
---   delegateOf .. q       the delegate of q as a list of delegates says it: none where q is not
+--   delegate_of .. q      the delegate of q as a list of delegates says it: none where q is not
 --                         live, else the lowest such state
---   startsOf ..           the delegate of each state, zeros after them, and how many states are
+--   starts_of ..          the delegate of each state, zeros after them, and how many states are
 --                         their own delegate; 32 states and 16 symbols are the most: a number above
 --                         counts as that
 use Rattle.std.specs.Prelude.{◌≡◌, Bool, true, false, cond, not, ◌&&◌, List, [], ◌∷◌, ℕ, zero, suc, ◌+◌, ◌*◌, min, ltb, get_or}

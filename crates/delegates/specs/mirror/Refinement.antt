@@ -4,16 +4,16 @@
 -- set.
 --
 --   class_of c s          the class of set s
---   sameIn .. k c t s    sets t and s are told apart neither by their classes, nor by being final,
+--   same_in .. k c t s   sets t and s are told apart neither by their classes, nor by being final,
 --                        nor by the classes of their successors
---   leastOf .. k c s     the class of set s after a round: the first set from its class on that is
+--   least_of .. k c s    the class of set s after a round: the first set from its class on that is
 --                        not told from it
---   roundOf .. k c       the classes after a round
+--   round_of .. k c      the classes after a round
 --   changes .. k c       whether a round changes the class of some set
---   classesOf .. k       the classes after all rounds: for each set and the empty set the lowest
+--   classes_of .. k      the classes after all rounds: for each set and the empty set the lowest
 --                        set that no text of fewer than 513 symbols tells from it
---   firstInClass own q   the lowest state in the class of state q; `own` has each state's class
---   cellIn own c q       the delegate of q as a list of delegates says it, by the classes: none
+--   first_in_class own q  the lowest state in the class of state q; `own` has each state's class
+--   cell_in own c q      the delegate of q as a list of delegates says it, by the classes: none
 --                        where the class of q is c, that of the empty set, else the lowest state in
 --                        it
 use Rattle.std.specs.Prelude.{Bool, cond, not, ◌&&◌, List, ℕ, ◌-◌, eqb, get_or}

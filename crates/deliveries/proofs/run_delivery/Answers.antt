@@ -1,7 +1,6 @@
 -- `run_delivery` meets its contract: a chunk without marks is its own text. Assumes nothing.
 use mathlib.Core.Path.{sym, ◌∙◌}
 use Rattle.marks.proofs.Claims as marks
-use borrow.Author.Rules.{rules}
 use Rattle.deliveries.proofs.run_delivery.Goals as goal
 
 pub returns : goal.returns

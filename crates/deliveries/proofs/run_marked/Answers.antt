@@ -10,7 +10,6 @@ use Rattle.text.proofs.Fitting.{taken}
 use Rattle.text.proofs.Rooms.{whole_within}
 use Rattle.marks.specs.Marks.{text_of}
 use Rattle.marks.proofs.Claims as marks
-use borrow.Author.Rules.{rules}
 use Rattle.deliveries.proofs.run_marked.Goals as goal
 
 short : (w : List ℕ) → length w ≤ 65536 → length (text_of w) ≤ 65536

@@ -2,11 +2,11 @@
 -- caused by the input" and "by the state"): 13, then 22, else the runs. A refusal carries zeros.
 --
 --   Attempted          the reply to a delivery, and the runs
---   attemptMeans r     what the code's answer says, each case of it by `deliver_means`
---   noRuns             zeros
---   refusedWith x      refused with the number x
---   ranTo runs         accepted, with the runs, and for how many bytes a successor was looked up
---   attemptOf sets next singles mask k late t   of the text t, from the states of the mask, where
+--   attempt_means r    what the code's answer says, each case of it by `deliver_means`
+--   no_runs            zeros
+--   refused_with x     refused with the number x
+--   ran_to runs        accepted, with the runs, and for how many bytes a successor was looked up
+--   attempt_of sets next singles mask k late t  of the text t, from the states of the mask, where
 --                      the rule has k symbols; late says whether the revision comes late
 use Rattle.std.specs.Prelude.{Bool, cond, List, ℕ, replicate}
 use Rattle.limits.specs.Limits.{most_states}

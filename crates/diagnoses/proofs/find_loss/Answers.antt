@@ -1,14 +1,11 @@
 -- `find_loss` meets its contract: C is joined up to the place, and what is found from there on is what
 -- is found. Assumes nothing.
-use mathlib.Core.Path.{◌≡◌, refl}
-use Prim.Native.Nat.{◌-◌, ◌≤◌}
+use mathlib.Core.Path.{refl}
 use native.Mathlib.Omega.{arith}
-use borrow.Author.Rules.{rules}
 use borrow.Author.Tests.{eq-eqb, ne_eqb}
-use Rattle.joins.specs.Joining.{join_of, join_up_to}
+use Rattle.joins.specs.Joining.{join_of}
 use Rattle.joins.proofs.Places.{place_more}
-use Rattle.diagnoses.specs.Diagnosing.{find_from}
-use Rattle.diagnoses.proofs.Finding.{find_start, find_empty, find_lost, find_past, find_end, no_chunk, lost_past, none_live, some_live}
+use Rattle.diagnoses.proofs.Finding.{find_start, find_empty, find_lost, find_past, find_end, none_live, some_live}
 use Rattle.diagnoses.proofs.find_loss.Goals as goal
 
 pub loop-place-init : goal.loop-place-init

@@ -1,14 +1,10 @@
 -- `find_loss` meets its contract: C is joined up to the place, and what is found from there on is what
 -- is found. Assumes nothing.
-use mathlib.Core.Path.{◌≡◌, refl}
+use mathlib.Core.Path.{◌≡◌}
 use Prim.Native.Nat.{◌-◌, ◌≤◌}
-use native.Mathlib.Omega.{arith}
-use borrow.Author.Rules.{rules}
-use borrow.Author.Tests.{eq-eqb, ne_eqb}
-use Rattle.joins.specs.Joining.{join_of, join_up_to}
-use Rattle.joins.proofs.Places.{place_more}
+use Rattle.joins.specs.Joining.{join_up_to}
 use Rattle.diagnoses.specs.Diagnosing.{find_from}
-use Rattle.diagnoses.proofs.Finding.{find_start, find_empty, find_lost, find_past, find_end, no_chunk, lost_past, none_live, some_live}
+use Rattle.diagnoses.proofs.Finding.{no_chunk, lost_past}
 use Rattle.diagnoses.proofs.find_loss.Given as goal
 
 abbrev pub invariant-loop-place : goal.invariant-loop-place

@@ -1,5 +1,4 @@
 -- `head` meets its contract. Assumes nothing.
-use Rattle.std.proofs.Common.{rules}
 use Rattle.digests.proofs.head.Goals as goal
 
 pub returns : goal.returns

@@ -1,7 +1,7 @@
 -- `with_delegates` meets its contract: the cells that are left go on from the digest so far.
 -- Assumes nothing.
-use Rattle.std.proofs.Common.{◌-◌, get_or, arith, rules}
-use Rattle.digests.proofs.Laws.{Left, left_all, left_fewer, left_none}
+use Rattle.std.proofs.Common.{arith}
+use Rattle.digests.proofs.Laws.{left_all, left_fewer, left_none}
 use Rattle.digests.proofs.with_delegates.Goals as goal
 
 pub loop-i-init : goal.loop-i-init

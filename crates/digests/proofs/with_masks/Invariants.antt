@@ -1,7 +1,7 @@
 -- `with_masks` meets its contract: the cells that are left go on from the digest so far. Assumes
 -- nothing.
-use Rattle.std.proofs.Common.{◌-◌, get_or, arith, rules}
-use Rattle.digests.proofs.Laws.{Left, left_all, left_fewer, left_none}
+use Rattle.std.proofs.Common.{◌-◌, get_or}
+use Rattle.digests.proofs.Laws.{Left}
 use Rattle.digests.proofs.with_masks.Given as goal
 
 abbrev pub invariant-loop-i : goal.invariant-loop-i

@@ -1,9 +1,8 @@
 -- `put_arrows` meets its contract. The loop's invariant: the arrows from the states below q are
 -- written. Assumes nothing.
 use native.Mathlib.Omega.{arith}
-use Prim.Native.Nat.{◌-◌}
 use Rattle.dotgraph.specs.DotText.{arrows_from}
-use Rattle.dotlabels.proofs.Rows.{Row, begin, fits, more, all}
+use Rattle.dotlabels.proofs.Rows.{begin, fits, more, all}
 use Rattle.dotgraph.proofs.put_arrows.Goals as goal
 
 pub loop-q-init : goal.loop-q-init

@@ -1,6 +1,5 @@
 -- `put_dot` meets its contract. Assumes nothing.
 use Rattle.dotgraph.proofs.Whole.{whole}
-use borrow.Author.Rules.{rules}
 use Rattle.dotgraph.proofs.put_dot.Goals as goal
 
 pub returns : goal.returns

@@ -1,6 +1,5 @@
 -- `put_entry` meets its contract. Assumes nothing.
 use Rattle.text.proofs.Rooms.{exact, two}
-use borrow.Author.Rules.{rules}
 use Rattle.dotgraph.proofs.put_entry.Goals as goal
 
 pub returns : goal.returns

@@ -3,7 +3,6 @@ use mathlib.Core.Path.{◌≡◌, sym, ◌∙◌}
 use mathlib.Core.Bool.{true, false}
 use Rattle.masks.specs.Masks.{has}
 use Rattle.text.proofs.Rooms.{two, nothing}
-use borrow.Author.Rules.{rules}
 use Rattle.dotgraph.proofs.put_initial.Goals as goal
 
 pub returns-then-member : goal.returns-then-member

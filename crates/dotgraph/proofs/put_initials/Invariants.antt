@@ -1,9 +1,8 @@
 -- `put_initials` meets its contract. The loop's invariant: the lines of the initial states below q
 -- are written. Assumes nothing.
-use native.Mathlib.Omega.{arith}
 use Prim.Native.Nat.{◌-◌}
 use Rattle.dotgraph.specs.DotText.{initial_lines}
-use Rattle.dotlabels.proofs.Rows.{Row, begin, fits, more, all}
+use Rattle.dotlabels.proofs.Rows.{Row}
 use Rattle.dotgraph.proofs.put_initials.Given as goal
 
 abbrev pub invariant-loop-q : goal.invariant-loop-q

@@ -1,7 +1,6 @@
 -- `put_line` meets its contract. Assumes nothing.
 use native.Mathlib.Omega.{arith}
 use Rattle.text.proofs.Rooms.{exact, two}
-use borrow.Author.Rules.{rules}
 use Rattle.dotgraph.proofs.put_line.Goals as goal
 
 pub returns : goal.returns

@@ -1,9 +1,8 @@
 -- `put_states` meets its contract. The loop's invariant: the lines of the first q states are
 -- written. Assumes nothing.
 use native.Mathlib.Omega.{arith}
-use Prim.Native.Nat.{◌-◌}
 use Rattle.dotgraph.specs.DotText.{state_line}
-use Rattle.dotlabels.proofs.Rows.{Row, begin, fits, more, all}
+use Rattle.dotlabels.proofs.Rows.{begin, fits, more, all}
 use Rattle.dotgraph.proofs.put_states.Goals as goal
 
 pub loop-q-init : goal.loop-q-init

@@ -4,7 +4,6 @@ use mathlib.Core.Bool.{true, false}
 use Rattle.base.specs.Conditions.{any_below}
 use Rattle.text.proofs.Rooms.{nothing}
 use Rattle.dotlabels.specs.Labels.{leads}
-use borrow.Author.Rules.{rules}
 use Rattle.dotgraph.proofs.put_target.Goals as goal
 
 pub returns-then-any_below : goal.returns-then-any_below

@@ -1,9 +1,8 @@
 -- `put_targets` meets its contract. The loop's invariant: the arrows to the states below t are
 -- written. Assumes nothing.
 use native.Mathlib.Omega.{arith}
-use Prim.Native.Nat.{◌-◌}
 use Rattle.dotgraph.specs.DotText.{arrow_lines}
-use Rattle.dotlabels.proofs.Rows.{Row, begin, fits, more, all}
+use Rattle.dotlabels.proofs.Rows.{begin, fits, more, all}
 use Rattle.dotgraph.proofs.put_targets.Goals as goal
 
 pub loop-t-init : goal.loop-t-init

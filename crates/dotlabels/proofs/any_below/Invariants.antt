@@ -1,10 +1,8 @@
 -- `any_below` meets its contract. The loop's invariant: no symbol passed leads. Assumes nothing.
-use mathlib.Core.Path.{◌≡◌, sym, ◌∙◌}
+use mathlib.Core.Path.{◌≡◌}
 use mathlib.Core.Bool.{false}
 use Prim.Native.Nat.{◌-◌, ◌≤◌}
-use native.Mathlib.Omega.{arith}
 use Rattle.base.specs.Conditions.{any_below}
-use Rattle.base.proofs.Conditions.{any_at, none_yet, none_more}
 use Rattle.dotlabels.specs.Labels.{leads}
 use Rattle.dotlabels.proofs.any_below.Given as goal
 

@@ -1,6 +1,5 @@
 -- `earlier` meets its contract. Assumes nothing.
 use borrow.Author.Tests.{le-leb, lt-leb}
-use borrow.Author.Rules.{rules}
 use Rattle.dotlabels.proofs.earlier.Goals as goal
 
 pub returns-then-back-s : goal.returns-then-back-s

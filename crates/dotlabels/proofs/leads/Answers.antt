@@ -4,7 +4,6 @@ use Prim.Native.Nat.{ℕ}
 use borrow.Author.Tests.{lt-ltb, le-ltb}
 use Rattle.masks.specs.Masks.{has}
 use Rattle.dotlabels.specs.Labels.{leads}
-use borrow.Author.Rules.{rules}
 use Rattle.dotlabels.proofs.leads.Goals as goal
 
 pub returns-then-s-k : goal.returns-then-s-k

@@ -1,6 +1,5 @@
 -- `put_after` meets its contract. Assumes nothing.
 use Rattle.text.proofs.Rooms.{exact, two}
-use borrow.Author.Rules.{rules}
 use Rattle.dotlabels.proofs.put_after.Goals as goal
 
 pub returns : goal.returns

@@ -1,6 +1,5 @@
 -- `put_first` meets its contract. Assumes nothing.
 use native.Mathlib.Omega.{arith}
-use borrow.Author.Rules.{rules}
 use Rattle.dotlabels.proofs.put_first.Goals as goal
 
 pub returns-then-more : goal.returns-then-more

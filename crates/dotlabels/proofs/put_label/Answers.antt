@@ -1,9 +1,8 @@
 -- `put_label` meets its contract. The loop's invariant: the pieces of the symbols below s are
 -- written. Assumes nothing.
 use native.Mathlib.Omega.{arith}
-use Prim.Native.Nat.{◌-◌}
 use Rattle.dotlabels.specs.Labels.{leads, piece}
-use Rattle.dotlabels.proofs.Rows.{Row, begin, fits, more, all}
+use Rattle.dotlabels.proofs.Rows.{begin, fits, more, all}
 use Rattle.dotlabels.proofs.put_label.Goals as goal
 
 pub loop-s-init : goal.loop-s-init

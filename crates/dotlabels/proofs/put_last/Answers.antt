@@ -1,5 +1,4 @@
 -- `put_last` meets its contract. Assumes nothing.
-use borrow.Author.Rules.{rules}
 use Rattle.dotlabels.proofs.put_last.Goals as goal
 
 pub returns-then-range : goal.returns-then-range

@@ -1,7 +1,6 @@
 -- `put_number` meets its contract. Assumes nothing.
 use native.Mathlib.Omega.{arith}
 use Rattle.text.proofs.Digits.{decimal_most}
-use borrow.Author.Rules.{rules}
 use Rattle.dotlabels.proofs.put_number.Goals as goal
 
 pub put_decimal-requires : goal.put_decimal-requires

@@ -3,7 +3,6 @@ use mathlib.Core.Path.{sym, ◌∙◌}
 use Rattle.text.proofs.Rooms.{nothing}
 use Rattle.dotlabels.specs.Labels.{leads}
 use Rattle.dotlabels.proofs.Labels.{outside, first, within, last}
-use borrow.Author.Rules.{rules}
 use Rattle.dotlabels.proofs.put_piece.Goals as goal
 
 pub returns-then-leads-2 : goal.returns-then-leads-2

@@ -1,14 +1,11 @@
 -- `band_fault` meets its contract: the rows passed are accepted. Assumes nothing.
-use mathlib.Core.Path.{◌≡◌, refl}
+use mathlib.Core.Path.{◌≡◌}
 use mathlib.Core.Option.{none}
 use Prim.Native.Nat.{◌+◌, ◌-◌, ◌*◌, ◌≤◌}
-use native.Mathlib.Omega.{arith}
 use lib.ListN.{length, drop}
-use borrow.Author.Rules.{rules}
 use Rattle.trays.specs.Rows.{rows_of}
 use Rattle.faults.specs.First.{first_found}
 use Rattle.faults.specs.Faulting.{row_wrong}
-use Rattle.faults.proofs.Turns.{row_next, row_fits, wrong, right, all_right}
 use Rattle.faults.proofs.band_fault.Given as goal
 
 abbrev pub invariant-loop-i : goal.invariant-loop-i

@@ -1,14 +1,11 @@
 -- `before_empty` meets its contract: the bands passed stand. Assumes nothing.
-use mathlib.Core.Path.{◌≡◌, refl}
+use mathlib.Core.Path.{◌≡◌}
 use mathlib.Core.Option.{none}
 use Prim.Native.Nat.{◌-◌, ◌≤◌}
-use native.Mathlib.Omega.{arith}
 use lib.Dec.{eqb}
 use lib.ListN.{get_or}
-use borrow.Author.Rules.{rules}
 use Rattle.faults.specs.First.{first_found}
 use Rattle.faults.specs.Faulting.{empty_at}
-use Rattle.faults.proofs.Ways.{found_empty, past_full, none_empty}
 use Rattle.faults.proofs.before_empty.Given as goal
 
 abbrev pub invariant-loop-p : goal.invariant-loop-p

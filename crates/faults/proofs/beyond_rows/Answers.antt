@@ -1,5 +1,4 @@
 -- `beyond_rows` meets its contract. Assumes nothing.
-use borrow.Author.Rules.{rules}
 use Rattle.trays.specs.Boards.{band_in, is_empty}
 use Rattle.faults.proofs.Ways.{fault_found, fault_open}
 use Rattle.faults.proofs.beyond_rows.Goals as goal

@@ -1,15 +1,10 @@
 -- `column_fault` meets its contract: none of the columns passed is lost, and the first of them that
 -- is not accepted is known. Assumes nothing.
-use mathlib.Core.Path.{◌≡◌, refl}
-use mathlib.Core.Option.{none}
-use Prim.Native.Nat.{◌-◌, ◌≤◌}
+use mathlib.Core.Path.{refl}
 use native.Mathlib.Omega.{arith}
-use borrow.Author.Rules.{rules}
-use Rattle.live.specs.Live.{live_of}
 use Rattle.trays.specs.Boards.{band_in}
 use Rattle.faults.specs.First.{first_found}
-use Rattle.faults.specs.Faulting.{found_means, column_short}
-use Rattle.faults.proofs.Ways.{stuck_at, lost_or_short, none_lost, short_next, only_short, not_full}
+use Rattle.faults.proofs.Ways.{lost_or_short, none_lost, short_next, only_short, not_full}
 use Rattle.faults.proofs.column_fault.Goals as goal
 
 pub loop-c-init : goal.loop-c-init

@@ -1,5 +1,4 @@
 -- `fault` meets its contract. Assumes nothing.
-use borrow.Author.Rules.{rules}
 use Rattle.faults.proofs.Ways.{fault_21, fault_row, fault_beyond}
 use Rattle.faults.proofs.fault.Goals as goal
 

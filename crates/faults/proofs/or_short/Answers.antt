@@ -1,5 +1,4 @@
 -- `or_short` meets its contract. Assumes nothing.
-use borrow.Author.Rules.{rules}
 use Rattle.faults.proofs.Ways.{short_was, short_not, short_now}
 use Rattle.faults.proofs.or_short.Goals as goal
 

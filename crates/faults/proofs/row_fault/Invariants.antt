@@ -1,16 +1,10 @@
 -- `row_fault` meets its contract: the rows of the bands passed are accepted. Assumes nothing.
-use mathlib.Core.Path.{◌≡◌, refl, ap, ◌∙◌}
+use mathlib.Core.Path.{◌≡◌}
 use mathlib.Core.Option.{none}
-use Prim.Native.Nat.{ℕ, ◌-◌, ◌*◌, ◌≤◌}
-use native.Mathlib.Omega.{arith}
-use lib.ListN.{length, drop}
-use borrow.Author.Rules.{rules}
-use Rattle.trays.specs.Rows.{rows_of}
+use Prim.Native.Nat.{◌-◌, ◌≤◌}
 use Rattle.trays.specs.Boards.{band_in}
-use Rattle.trayverdict.proofs.Walks.{band_fits}
 use Rattle.faults.specs.First.{first_found}
 use Rattle.faults.specs.Faulting.{band_wrong}
-use Rattle.faults.proofs.Ways.{answer_found, answer_none, all_done}
 use Rattle.faults.proofs.row_fault.Given as goal
 
 abbrev pub invariant-loop-p : goal.invariant-loop-p

@@ -1,15 +1,11 @@
 -- `walk_band` meets its contract: the set after the rows passed, each of which left a live state.
 -- Assumes nothing.
-use mathlib.Core.Path.{◌≡◌, refl}
-use mathlib.Core.Option.{none}
-use Prim.Native.Nat.{◌+◌, ◌-◌, ◌*◌, ◌≤◌, ◌<◌}
+use mathlib.Core.Path.{refl}
+use Prim.Native.Nat.{◌+◌, ◌≤◌}
 use native.Mathlib.Omega.{arith}
-use lib.ListN.{length, take, drop}
-use borrow.Author.Rules.{rules}
-use Rattle.automaton.specs.Successor.{after}
-use Rattle.trays.specs.Rows.{rows_of, column_of}
+use lib.ListN.{length}
+use Rattle.trays.specs.Rows.{column_of}
 use Rattle.faults.specs.First.{first_found}
-use Rattle.faults.specs.Faulting.{row_stuck}
 use Rattle.faults.proofs.Turns.{row_next, row_fits, set_next, stuck_here, on_here, all_on}
 use Rattle.faults.proofs.walk_band.Goals.{In-loop-i}
 use Rattle.std.proofs.lemmas.Bool.{not_from_false, not_from_true}

@@ -1,16 +1,13 @@
 -- `walk_band` meets its contract: the set after the rows passed, each of which left a live state.
 -- Assumes nothing.
-use mathlib.Core.Path.{◌≡◌, refl}
+use mathlib.Core.Path.{◌≡◌}
 use mathlib.Core.Option.{none}
 use Prim.Native.Nat.{◌+◌, ◌-◌, ◌*◌, ◌≤◌, ◌<◌}
-use native.Mathlib.Omega.{arith}
 use lib.ListN.{length, take, drop}
-use borrow.Author.Rules.{rules}
 use Rattle.automaton.specs.Successor.{after}
 use Rattle.trays.specs.Rows.{rows_of, column_of}
 use Rattle.faults.specs.First.{first_found}
 use Rattle.faults.specs.Faulting.{row_stuck}
-use Rattle.faults.proofs.Turns.{row_next, row_fits, set_next, stuck_here, on_here, all_on}
 use Rattle.faults.proofs.walk_band.Given as goal
 
 abbrev pub invariant-loop-i : goal.invariant-loop-i

@@ -1,11 +1,9 @@
 -- `walk_column` meets its contract: the set after the bands passed, in each of which a live state
 -- was left with every row. Assumes nothing.
 use mathlib.Core.Path.{◌≡◌, refl, sym, ap, ◌∙◌}
-use mathlib.Core.Option.{none}
-use Prim.Native.Nat.{ℕ, ◌-◌, ◌≤◌}
+use Prim.Native.Nat.{ℕ}
 use native.Mathlib.Omega.{arith}
 use lib.ListN.{length}
-use borrow.Author.Rules.{rules}
 use Rattle.automaton.specs.Successor.{after}
 use Rattle.trays.specs.Rows.{rows_up_to, column_of}
 use Rattle.trays.specs.Boards.{band_in}

@@ -1,19 +1,13 @@
 -- `walk_column` meets its contract: the set after the bands passed, in each of which a live state
 -- was left with every row. Assumes nothing.
-use mathlib.Core.Path.{◌≡◌, refl, sym, ap, ◌∙◌}
+use mathlib.Core.Path.{◌≡◌}
 use mathlib.Core.Option.{none}
-use Prim.Native.Nat.{ℕ, ◌-◌, ◌≤◌}
-use native.Mathlib.Omega.{arith}
-use lib.ListN.{length}
-use borrow.Author.Rules.{rules}
+use Prim.Native.Nat.{◌-◌, ◌≤◌}
 use Rattle.automaton.specs.Successor.{after}
 use Rattle.trays.specs.Rows.{rows_up_to, column_of}
 use Rattle.trays.specs.Boards.{band_in}
-use Rattle.trayverdict.proofs.Walks.{band_fits}
 use Rattle.faults.specs.First.{first_found}
-use Rattle.faults.specs.Faulting.{reaches, band_on}
-use Rattle.faults.proofs.First.{first_here, first_more}
-use Rattle.faults.proofs.Ways.{lost_first, column_lost, column_ends, way_stuck, way_ends, band_walked}
+use Rattle.faults.specs.Faulting.{band_on}
 use Rattle.faults.proofs.walk_column.Given as goal
 
 abbrev pub invariant-loop-p : goal.invariant-loop-p

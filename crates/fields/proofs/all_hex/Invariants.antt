@@ -1,12 +1,9 @@
 -- `all_hex` meets its contract. The loop's invariant: the bytes before i are hex digits. Assumes
 -- nothing.
-use mathlib.Core.Path.{◌≡◌, refl, sym, ◌∙◌}
+use mathlib.Core.Path.{◌≡◌}
 use Prim.Native.Nat.{◌-◌, ◌≤◌}
-use native.Mathlib.Omega.{arith}
-use borrow.Author.Rules.{rules}
 use lib.ListN.{length, drop}
 use Rattle.fields.specs.Bytes.{all_hex}
-use Rattle.fields.proofs.Pairs.{hex_stray, hex_on, hex_end}
 use Rattle.fields.proofs.all_hex.Given as goal
 
 abbrev pub invariant-loop-i : goal.invariant-loop-i

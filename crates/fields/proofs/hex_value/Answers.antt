@@ -1,6 +1,5 @@
 -- `hex_value` meets its contract. Assumes nothing.
 use native.Mathlib.Omega.{arith}
-use borrow.Author.Rules.{rules}
 use Rattle.fields.specs.Bytes.{hex_value}
 use Rattle.fields.proofs.Pairs.{within_so, within_low, within_high}
 use Rattle.fields.proofs.hex_value.Goals as goal

@@ -3,15 +3,13 @@
 use mathlib.Core.Path.{◌≡◌, refl, sym, ap₂, ◌∙◌}
 use mathlib.Core.Bool.{true}
 use mathlib.Core.List.{[], ◌∷◌, ◌++◌}
-use Prim.Native.Nat.{ℕ, ◌+◌, ◌*◌, ◌-◌, ◌≤◌}
+use Prim.Native.Nat.{ℕ, ◌+◌, ◌*◌}
 use native.Mathlib.Numerals.{add-one}
 use native.Mathlib.Omega.{arith}
-use borrow.Author.Rules.{rules}
 use lib.ListN.{length, get_or, take, set, length-set}
 use lib.Seq.{take-suc, length-take-le}
-use Rattle.text.specs.Writing.{Wrote}
 use Rattle.text.proofs.Pieces.{wrote_none, wrote_byte, wrote_more}
-use Rattle.fields.specs.Bytes.{all_hex, pairs}
+use Rattle.fields.specs.Bytes.{pairs}
 use Rattle.fields.proofs.Pairs.{pairs_at, pairs_length, pairs_all, hex_at}
 use Rattle.fields.proofs.put_pairs.Goals as goal
 

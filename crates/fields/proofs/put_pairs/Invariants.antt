@@ -1,18 +1,11 @@
 -- `put_pairs` meets its contract. The loop's invariant: the bytes of the first i pairs are written.
 -- Assumes nothing.
-use mathlib.Core.Path.{◌≡◌, refl, sym, ap₂, ◌∙◌}
+use mathlib.Core.Path.{◌≡◌}
 use mathlib.Core.Bool.{true}
-use mathlib.Core.List.{[], ◌∷◌, ◌++◌}
-use Prim.Native.Nat.{ℕ, ◌+◌, ◌*◌, ◌-◌, ◌≤◌}
-use native.Mathlib.Numerals.{add-one}
-use native.Mathlib.Omega.{arith}
-use borrow.Author.Rules.{rules}
-use lib.ListN.{length, get_or, take, set, length-set}
-use lib.Seq.{take-suc, length-take-le}
+use Prim.Native.Nat.{◌*◌, ◌-◌, ◌≤◌}
+use lib.ListN.{length, take}
 use Rattle.text.specs.Writing.{Wrote}
-use Rattle.text.proofs.Pieces.{wrote_none, wrote_byte, wrote_more}
 use Rattle.fields.specs.Bytes.{all_hex, pairs}
-use Rattle.fields.proofs.Pairs.{pairs_at, pairs_length, pairs_all, hex_at}
 use Rattle.fields.proofs.put_pairs.Given as goal
 
 abbrev pub invariant-loop-i : goal.invariant-loop-i

@@ -1,6 +1,5 @@
 -- `read_bytes` meets its contract. Assumes nothing.
 use mathlib.Core.Path.{sym, ◌∙◌}
-use borrow.Author.Rules.{rules}
 use Rattle.fields.proofs.Pairs.{took_dash, took_stray, took_empty, took_odd, took_other, took_pairs}
 use Rattle.fields.proofs.read_bytes.Goals as goal
 

@@ -1,12 +1,10 @@
 -- `read_number` meets its contract. The loop's invariant: the field says what the bytes from i on
 -- say after digits of the value. Assumes nothing.
-use mathlib.Core.Path.{◌≡◌, sym, ◌∙◌}
-use Prim.Native.Nat.{◌+◌, ◌*◌, ◌-◌, ◌≤◌}
-use native.Mathlib.Omega.{arith}
-use borrow.Author.Rules.{rules}
-use lib.ListN.{length, get_or, drop}
+use mathlib.Core.Path.{◌≡◌}
+use Prim.Native.Nat.{◌-◌, ◌≤◌}
+use lib.ListN.{length, drop}
 use Rattle.fields.specs.Numbers.{parse_number}
-use Rattle.fields.proofs.Digits.{said_from, said_over, said_short, said_long, said_whole, said_end, said_low, said_high, said_digit}
+use Rattle.fields.proofs.Digits.{said_from}
 use Rattle.fields.proofs.read_number.Given as goal
 
 abbrev pub invariant-loop-i : goal.invariant-loop-i

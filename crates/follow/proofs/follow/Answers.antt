@@ -1,5 +1,5 @@
 -- `follow` meets its contract: the rule is refused by its check, or the chunk is followed. Assumes nothing.
-use Rattle.std.proofs.Common.{sym, ap, ◌∙◌, rules}
+use Rattle.std.proofs.Common.{sym, ap, ◌∙◌}
 use Rattle.base.specs.Answers.{answer_number}
 use Rattle.follow.proofs.Ways.{unchecked, checked}
 use Rattle.follow.proofs.follow.Goals as goal

@@ -1,5 +1,4 @@
 -- `follow_by` meets its contract. Assumes nothing.
-use Rattle.std.proofs.Common.{rules}
 use Rattle.follow.specs.Following.{follow_by_of}
 use Rattle.follow.proofs.follow_by.Goals as goal
 

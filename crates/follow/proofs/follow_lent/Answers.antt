@@ -1,5 +1,5 @@
 -- `follow_lent` meets its contract: each way out by its lemma. Assumes nothing.
-use Rattle.std.proofs.Common.{sym, refl, ◌∙◌, rules}
+use Rattle.std.proofs.Common.{sym, refl, ◌∙◌}
 use Rattle.follow.specs.Following.{way_outcome}
 use Rattle.follow.proofs.Ways.{long, strange, whole}
 use Rattle.follow.proofs.follow_lent.Goals as goal

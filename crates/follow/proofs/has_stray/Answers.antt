@@ -1,6 +1,6 @@
 -- `has_stray` meets its contract. The loop's invariant: found says what is foreign in the bytes
 -- passed. Assumes nothing.
-use Rattle.std.proofs.Common.{◌≡◌, ℕ, ◌-◌, ◌≤◌, Bool, ◌||◌, List, length, take, sym, ap, ◌∙◌, ⊎_elim, arith, take_all, rules}
+use Rattle.std.proofs.Common.{ℕ, Bool, ◌||◌, List, take, sym, ap, ◌∙◌, arith, take_all, rules}
 use mathlib.Core.Bool.{or-false}
 use Rattle.marks.specs.Marks.{text_of}
 use Rattle.chunks.specs.Chunks.{foreign}

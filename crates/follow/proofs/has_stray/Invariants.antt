@@ -1,10 +1,8 @@
 -- `has_stray` meets its contract. The loop's invariant: found says what is foreign in the bytes
 -- passed. Assumes nothing.
-use Rattle.std.proofs.Common.{◌≡◌, ℕ, ◌-◌, ◌≤◌, Bool, ◌||◌, List, length, take, sym, ap, ◌∙◌, ⊎_elim, arith, take_all, rules}
-use mathlib.Core.Bool.{or-false}
+use Rattle.std.proofs.Common.{◌≡◌, ◌-◌, ◌≤◌, length, take}
 use Rattle.marks.specs.Marks.{text_of}
 use Rattle.chunks.specs.Chunks.{foreign}
-use Rattle.follow.proofs.Steps.{stray_more, stray_none, stray_found}
 use Rattle.follow.proofs.has_stray.Given as goal
 
 abbrev pub invariant-loop-i : goal.invariant-loop-i

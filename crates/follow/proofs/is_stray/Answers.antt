@@ -1,5 +1,5 @@
 -- `is_stray` meets its contract. Assumes nothing.
-use Rattle.std.proofs.Common.{ltb, ap, ◌∙◌, rules}
+use Rattle.std.proofs.Common.{ltb, ap, ◌∙◌}
 use Rattle.follow.proofs.Steps.{stray_one}
 use Rattle.follow.proofs.is_stray.Goals as goal
 

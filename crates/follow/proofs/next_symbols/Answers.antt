@@ -1,5 +1,5 @@
 -- `next_symbols` meets its contract. Assumes nothing.
-use Rattle.std.proofs.Common.{◌≡◌, ℕ, ◌-◌, ◌≤◌, min, Bool, sym, refl, ap, ◌∙◌, ⊎_elim, arith, rules}
+use Rattle.std.proofs.Common.{◌≡◌, ℕ, min, Bool, sym, refl, ap, ◌∙◌, arith}
 use lib.Bits.{bit_or}
 use Rattle.masks.specs.Masks.{shares, mask_of}
 use Rattle.masks.proofs.Passing.{mask_add, mask_skip}

@@ -1,11 +1,6 @@
 -- `next_symbols` meets its contract. Assumes nothing.
-use Rattle.std.proofs.Common.{◌≡◌, ℕ, ◌-◌, ◌≤◌, min, Bool, sym, refl, ap, ◌∙◌, ⊎_elim, arith, rules}
-use lib.Bits.{bit_or}
-use Rattle.masks.specs.Masks.{shares, mask_of}
-use Rattle.masks.proofs.Passing.{mask_add, mask_skip}
-use Rattle.automaton.specs.Successor.{successor}
+use Rattle.std.proofs.Common.{◌≡◌, ◌-◌, ◌≤◌, min}
 use Rattle.follow.specs.Following.{next_by}
-use Rattle.follow.proofs.Ways.{no_more}
 use Rattle.follow.proofs.next_symbols.Given as goal
 
 abbrev pub invariant-loop-s : goal.invariant-loop-s

@@ -1,5 +1,5 @@
 -- `prepare` meets its contract. Assumes nothing.
-use Rattle.std.proofs.Common.{ℕ, sym, ap, ◌∙◌, rules}
+use Rattle.std.proofs.Common.{ℕ, sym, ap, ◌∙◌}
 use mathlib.Core.Option.{none}
 use Rattle.base.specs.Answers.{answer_number}
 use Rattle.follow.proofs.Ways.{told, told_refused}

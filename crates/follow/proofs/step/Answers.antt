@@ -1,5 +1,4 @@
 -- `step` meets its contract: each way out by its lemma. Assumes nothing.
-use Rattle.std.proofs.Common.{rules}
 use Rattle.follow.proofs.Caching.{stepped_idle, stepped_beyond, stepped_known, stepped_new}
 use Rattle.follow.proofs.step.Goals as goal
 

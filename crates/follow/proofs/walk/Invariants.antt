@@ -1,11 +1,10 @@
 -- `walk` meets its contract. The first loop's invariant: what is reached is the set after the bytes
 -- passed, each set before has a live state, and the cache is right. The second's: what is reached is
 -- the set after the bytes passed. Assumes nothing.
-use Rattle.std.proofs.Common.{◌≡◌, ℕ, ◌-◌, ◌<◌, ◌≤◌, [], ◌∷◌, length, get_or, take, sym, ap, ◌∙◌, arith, take_all, rules}
+use Rattle.std.proofs.Common.{◌≡◌, ◌-◌, ◌<◌, ◌≤◌, length, take}
 use Rattle.follow.specs.Following.{set_after}
 use Rattle.follow.specs.mirror.Cache.{Cached}
-use Rattle.follow.proofs.Steps.{after_next, empty_rest, Going, begun, next, at-end, lost_here}
-use Rattle.follow.proofs.Caching.{cached_first}
+use Rattle.follow.proofs.Steps.{Going}
 use Rattle.follow.proofs.walk.Given as goal
 
 abbrev pub invariant-loop-from : goal.invariant-loop-from

@@ -1,6 +1,6 @@
 -- Successors that a walk found before: how it goes fast. No promise to a customer cites what is here.
 --
---   cacheRows, cacheCells    61 rows, of a cell for each of 16 symbols
+--   cache_rows, cache_cells  61 rows, of a cell for each of 16 symbols
 --   Cached ts from to rows   each cell c is right: by symbol c % 16 the set from[c] leads to to[c]; and
 --                            rows[c] is a row
 --   Stepped ts m b r ..      the set after the byte b, which may be an idle mark, from the set m; and the

@@ -1,5 +1,4 @@
 -- `check` meets its contract: after each test that fails the next one decides. Assumes nothing.
-use borrow.Author.Rules.{rules}
 use Rattle.formback.specs.mirror.Parts.{form_by}
 use Rattle.formback.proofs.Turns.{few, on_1, on_2, on_3, on_4, on_5, passed}
 use Rattle.formback.proofs.check.Goals as goal

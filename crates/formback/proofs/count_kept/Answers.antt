@@ -1,10 +1,9 @@
 -- `count_kept` meets its contract. Assumes nothing.
 use mathlib.Core.Path.{◌≡◌, refl, ap, ◌∙◌}
-use mathlib.Core.Logic.{inl, inr, ⊎_elim}
-use Prim.Native.Nat.{◌≤◌, ◌-◌, ◌*◌}
+use mathlib.Core.Logic.{inl, inr}
+use Prim.Native.Nat.{◌*◌}
 use native.Mathlib.Omega.{arith}
 use Rattle.base.specs.Totals.{total}
-use borrow.Author.Rules.{rules}
 use Rattle.forms.specs.Form.{how_many, kept_at}
 use Rattle.forms.proofs.Picking.{count_on}
 use Rattle.formback.proofs.count_kept.Goals.{else-has_symbol, then-has_symbol}
@@ -21,7 +20,7 @@ loop-c-preserved c =
     let e = c.has_symbol in
     let r = count_on (kept_at a.kept.now) l.c l.n c.if-has_symbol.n e.result e.ensures l.invariant.1 l.invariant.2
     ((elim c.if-has_symbol.branch [
-      then-has_symbol x ↦ inl (x.if-has_symbol.true, x.n-is)
+      | then-has_symbol x ↦ inl (x.if-has_symbol.true, x.n-is)
       | else-has_symbol x ↦ inr (x.if-has_symbol.false, x.n-is)
     ])) in
     (omega arith, r.0, r.1)

@@ -1,12 +1,7 @@
 -- `count_kept` meets its contract. Assumes nothing.
-use mathlib.Core.Path.{◌≡◌, refl, ap, ◌∙◌}
-use mathlib.Core.Logic.{inl, inr, ⊎_elim}
+use mathlib.Core.Path.{◌≡◌}
 use Prim.Native.Nat.{◌≤◌, ◌-◌, ◌*◌}
-use native.Mathlib.Omega.{arith}
-use Rattle.base.specs.Totals.{total}
-use borrow.Author.Rules.{rules}
 use Rattle.forms.specs.Form.{how_many, kept_at}
-use Rattle.forms.proofs.Picking.{count_on}
 use Rattle.formback.proofs.count_kept.Given as goal
 
 abbrev pub invariant-loop-c : goal.invariant-loop-c

@@ -1,16 +1,14 @@
 -- `fill` meets its contract. The loop's invariant: the cells passed are those of the table, and as
 -- many packed cells were taken as are kept among them. Assumes nothing.
-use mathlib.Core.Path.{◌≡◌, refl, sym, ap, ◌∙◌}
-use mathlib.Core.Logic.{inl, inr, ⊎_elim}
-use Prim.Native.Nat.{ℕ, ◌*◌, ◌-◌, ◌≤◌}
+use mathlib.Core.Path.{refl, sym, ap, ◌∙◌}
+use mathlib.Core.Logic.{inl, inr}
+use Prim.Native.Nat.{ℕ}
 use native.Mathlib.Omega.{arith}
 use lib.ListN.{length, length-replicate}
-use borrow.Author.Rules.{rules}
 use Rattle.base.specs.Totals.{total}
-use Rattle.forms.specs.Form.{how_many, kept_at}
 use Rattle.forms.specs.Back.{back_cell}
 use Rattle.forms.proofs.Accepting.{parts}
-use Rattle.forms.proofs.Filling.{Filled, filled_none}
+use Rattle.forms.proofs.Filling.{filled_none}
 use Rattle.formback.specs.mirror.Parts.{form_by}
 use Rattle.formback.proofs.Rows.{row_below, all_filled, row_more}
 use Rattle.formback.proofs.fill.Goals.{else-has_symbol, then-has_symbol}
@@ -50,7 +48,7 @@ loop-c-preserved c =
     let r = row_more (form_by a.sets a.k a.failure.now a.kept.now a.cells.now) c.requires.0 l.c l.at c.if-has_symbol.at
     l.next c.if-has_symbol.next e.result (omega arith) e.ensures l.invariant.2 l.invariant.3 l.invariant.4 l.invariant.5
     ((elim c.if-has_symbol.branch [
-      then-has_symbol x ↦ inl (x.if-has_symbol.true, x.next-is, x.at-is)
+      | then-has_symbol x ↦ inl (x.if-has_symbol.true, x.next-is, x.at-is)
       | else-has_symbol x ↦ inr (x.if-has_symbol.false, (x.inherited.result, x.inherited.ensures, x.next-is), x.at-is)
     ])) in
     (omega arith, omega arith, r.0, r.1, r.2, r.3)

@@ -1,18 +1,12 @@
 -- `fill` meets its contract. The loop's invariant: the cells passed are those of the table, and as
 -- many packed cells were taken as are kept among them. Assumes nothing.
-use mathlib.Core.Path.{◌≡◌, refl, sym, ap, ◌∙◌}
-use mathlib.Core.Logic.{inl, inr, ⊎_elim}
-use Prim.Native.Nat.{ℕ, ◌*◌, ◌-◌, ◌≤◌}
-use native.Mathlib.Omega.{arith}
-use lib.ListN.{length, length-replicate}
-use borrow.Author.Rules.{rules}
-use Rattle.base.specs.Totals.{total}
+use mathlib.Core.Path.{◌≡◌}
+use Prim.Native.Nat.{◌*◌, ◌-◌, ◌≤◌}
+use lib.ListN.{length}
 use Rattle.forms.specs.Form.{how_many, kept_at}
 use Rattle.forms.specs.Back.{back_cell}
-use Rattle.forms.proofs.Accepting.{parts}
-use Rattle.forms.proofs.Filling.{Filled, filled_none}
+use Rattle.forms.proofs.Filling.{Filled}
 use Rattle.formback.specs.mirror.Parts.{form_by}
-use Rattle.formback.proofs.Rows.{row_below, all_filled, row_more}
 use Rattle.formback.proofs.fill.Given as goal
 
 abbrev pub invariant-loop-c : goal.invariant-loop-c

@@ -1,12 +1,10 @@
 -- `first_lacks` meets its contract. The loop's invariant: no symbol passed is left out. Assumes nothing.
 use mathlib.Core.Path.{ap}
 use mathlib.Core.Bool.{not}
-use Prim.Native.Nat.{◌-◌}
 use native.Mathlib.Omega.{arith}
 use lib.ListN.{get_or}
-use borrow.Author.Rules.{rules}
 use Rattle.masks.specs.Masks.{has}
-use Rattle.formback.proofs.Turns.{Passed, passed_none, passed_more, passed_all, found}
+use Rattle.formback.proofs.Turns.{passed_none, passed_more, passed_all, found}
 use Rattle.formback.proofs.first_lacks.Goals as goal
 
 pub loop-s-init : goal.loop-s-init

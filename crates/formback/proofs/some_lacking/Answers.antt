@@ -1,10 +1,8 @@
 -- `some_lacking` meets its contract. The loop's invariant: no cell passed names such a set. Assumes nothing.
-use Prim.Native.Nat.{◌-◌}
 use native.Mathlib.Omega.{arith}
 use lib.ListN.{get_or}
-use borrow.Author.Rules.{rules}
 use Rattle.forms.specs.Back.{lacking}
-use Rattle.formback.proofs.Turns.{Passed, passed_none, passed_more, passed_all, found}
+use Rattle.formback.proofs.Turns.{passed_none, passed_more, passed_all, found}
 use Rattle.formback.proofs.some_lacking.Goals as goal
 
 pub loop-i-init : goal.loop-i-init

@@ -1,9 +1,7 @@
 -- `some_not_below` meets its contract. The loop's invariant: no set passed has such a failure set. Assumes nothing.
 use Prim.Native.Nat.{◌-◌}
-use native.Mathlib.Omega.{arith}
-use borrow.Author.Rules.{rules}
 use Rattle.forms.specs.Back.{not_below}
-use Rattle.formback.proofs.Turns.{Passed, passed_none, passed_more, passed_all, found}
+use Rattle.formback.proofs.Turns.{Passed}
 use Rattle.formback.proofs.some_not_below.Given as goal
 
 abbrev pub invariant-loop-t : goal.invariant-loop-t

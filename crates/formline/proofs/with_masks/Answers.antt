@@ -1,5 +1,4 @@
 -- `with_masks` meets its contract. Assumes nothing.
-use borrow.Author.Rules.{rules}
 use mathlib.Core.Path.{sym, ◌∙◌}
 use native.Mathlib.Omega.{arith}
 use Rattle.formline.proofs.Fields.{no_cells, many_sets_lem, many_symbols, all_held, words_known, words_unknown}

@@ -1,11 +1,8 @@
 -- `equal_cells` meets its contract. The loop's invariant: the count is that of the symbols passed. Assumes nothing.
 use mathlib.Core.Path.{◌≡◌, refl}
-use Prim.Native.Nat.{◌≤◌, ◌-◌}
 use native.Mathlib.Omega.{arith}
-use borrow.Author.Rules.{rules}
 use Rattle.base.specs.Totals.{total}
-use Rattle.forms.specs.Form.{equal_cells}
-use mathlib.Core.Logic.{inl, inr, ⊎_elim}
+use mathlib.Core.Logic.{inl, inr}
 use Rattle.formmaker.proofs.Turns.{equal_more}
 use Rattle.formmaker.proofs.equal_cells.Goals.{else-next-t, then-next-t}
 use Rattle.formmaker.proofs.equal_cells.Goals as goal

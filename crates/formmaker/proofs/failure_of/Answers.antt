@@ -1,10 +1,8 @@
 -- `failure_of` meets its contract. Assumes nothing.
 use mathlib.Core.Path.{◌≡◌, refl}
-use mathlib.Core.Logic.{inl, inr, ⊎_elim}
-use Prim.Native.Nat.{◌≤◌, ◌-◌}
+use mathlib.Core.Logic.{inl, inr}
 use native.Mathlib.Omega.{arith}
-use borrow.Author.Rules.{rules}
-use Rattle.forms.specs.Form.{equal_cells, best_below}
+use Rattle.forms.specs.Form.{best_below}
 use Rattle.formmaker.proofs.Turns.{best_more}
 use Rattle.formmaker.proofs.failure_of.Goals.{else-most-equal, then-most-equal}
 use Rattle.formmaker.proofs.failure_of.Goals as goal

@@ -1,11 +1,7 @@
 -- `failure_of` meets its contract. Assumes nothing.
-use mathlib.Core.Path.{◌≡◌, refl}
-use mathlib.Core.Logic.{inl, inr, ⊎_elim}
+use mathlib.Core.Path.{◌≡◌}
 use Prim.Native.Nat.{◌≤◌, ◌-◌}
-use native.Mathlib.Omega.{arith}
-use borrow.Author.Rules.{rules}
 use Rattle.forms.specs.Form.{equal_cells, best_below}
-use Rattle.formmaker.proofs.Turns.{best_more}
 use Rattle.formmaker.proofs.failure_of.Given as goal
 
 abbrev pub invariant-loop-u : goal.invariant-loop-u

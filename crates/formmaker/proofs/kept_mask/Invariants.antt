@@ -1,13 +1,8 @@
 -- `kept_mask` meets its contract. Assumes nothing.
-use mathlib.Core.Path.{◌≡◌, refl, ap, ◌∙◌}
-use mathlib.Core.Logic.{inl, inr, ⊎_elim}
+use mathlib.Core.Path.{◌≡◌}
 use Prim.Native.Nat.{◌≤◌, ◌-◌}
-use native.Mathlib.Omega.{arith}
-use borrow.Author.Rules.{rules}
-use lib.Bits.{bit_or}
 use Rattle.masks.specs.Masks.{mask_of}
 use Rattle.forms.specs.Form.{keeps}
-use Rattle.formmaker.proofs.Turns.{mask_more}
 use Rattle.formmaker.proofs.kept_mask.Given as goal
 
 abbrev pub invariant-loop-s : goal.invariant-loop-s

@@ -1,14 +1,9 @@
 -- `mark_sets` meets its contract. The loop's invariant: the sets passed are marked, and the other cells are 0. Assumes nothing.
-use mathlib.Core.Path.{◌≡◌, ap, ◌∙◌}
-use mathlib.Core.Bool.{cond}
-use Prim.Native.Nat.{ℕ, ◌≤◌, ◌-◌}
-use native.Mathlib.Omega.{arith}
-use borrow.Author.Rules.{rules}
-use lib.Dec.{ltb}
-use lib.ListN.{length, length-set, length-replicate}
-use Rattle.base.proofs.Lists.{is_list_from}
+use mathlib.Core.Path.{◌≡◌}
+use Prim.Native.Nat.{◌≤◌, ◌-◌}
+use lib.ListN.{length}
 use Rattle.forms.specs.Form.{failure_of, kept_mask}
-use Rattle.forms.proofs.Filling.{Filled, filled_none, fill_more}
+use Rattle.forms.proofs.Filling.{Filled}
 use Rattle.formmaker.proofs.mark_sets.Given as goal
 
 abbrev pub invariant-loop-t : goal.invariant-loop-t

@@ -1,14 +1,13 @@
 -- `pack` meets its contract. The loop's invariant: the cells are those packed so far, and 0. Assumes nothing.
 use mathlib.Core.Path.{◌≡◌, refl, ap, ◌∙◌}
-use mathlib.Core.Logic.{inl, inr, ⊎_elim}
-use Prim.Native.Nat.{ℕ, ◌≤◌, ◌-◌, ◌*◌}
+use mathlib.Core.Logic.{inl, inr}
+use Prim.Native.Nat.{ℕ, ◌*◌}
 use native.Mathlib.Omega.{arith}
-use borrow.Author.Rules.{rules}
 use lib.ListN.{length, get_or, length-replicate}
 use Rattle.base.proofs.Lists.{is_list_from, zero_cells}
 use Rattle.base.specs.Totals.{total}
-use Rattle.forms.specs.Form.{how_many, kept_at, picked}
-use Rattle.formmaker.proofs.Turns.{Packed, packed_none, pack_more}
+use Rattle.forms.specs.Form.{kept_at, picked}
+use Rattle.formmaker.proofs.Turns.{packed_none, pack_more}
 use Rattle.formmaker.proofs.pack.Goals.{else-has_symbol, then-has_symbol}
 use Rattle.formmaker.proofs.pack.Goals as goal
 

@@ -1,14 +1,9 @@
 -- `pack` meets its contract. The loop's invariant: the cells are those packed so far, and 0. Assumes nothing.
-use mathlib.Core.Path.{◌≡◌, refl, ap, ◌∙◌}
-use mathlib.Core.Logic.{inl, inr, ⊎_elim}
-use Prim.Native.Nat.{ℕ, ◌≤◌, ◌-◌, ◌*◌}
-use native.Mathlib.Omega.{arith}
-use borrow.Author.Rules.{rules}
-use lib.ListN.{length, get_or, length-replicate}
-use Rattle.base.proofs.Lists.{is_list_from, zero_cells}
-use Rattle.base.specs.Totals.{total}
-use Rattle.forms.specs.Form.{how_many, kept_at, picked}
-use Rattle.formmaker.proofs.Turns.{Packed, packed_none, pack_more}
+use mathlib.Core.Path.{◌≡◌}
+use Prim.Native.Nat.{◌≤◌, ◌-◌, ◌*◌}
+use lib.ListN.{length, get_or}
+use Rattle.forms.specs.Form.{how_many, kept_at}
+use Rattle.formmaker.proofs.Turns.{Packed}
 use Rattle.formmaker.proofs.pack.Given as goal
 
 abbrev pub invariant-loop-c : goal.invariant-loop-c

@@ -5,14 +5,10 @@
 -- (`turn_on`), one that ends is answered (`turn_put`). The loop ends where the block is used up or the
 -- room is short.
 use Rattle.linetexts.proofs.Turns.{turn_forward, turn_on, turn_put}
-use Rattle.linetexts.proofs.Gathering.{SoFar, begun, ended, at_over, gather_short}
-use Rattle.linetexts.specs.Alone.{line_state}
+use Rattle.linetexts.proofs.Gathering.{begun, ended, at_over, gather_short}
 use Rattle.formstream.specs.Texts.{form_teller, form_lines}
-use lib.ListN.{length}
-use Prim.Native.Nat.{◌-◌}
 use native.Mathlib.Omega.{arith}
-use mathlib.Core.Path.{◌≡◌, refl, ◌∙◌}
-use borrow.Author.Rules.{rules}
+use mathlib.Core.Path.{refl, ◌∙◌}
 use Rattle.formstream.proofs.gather.Goals as goal
 
 pub loop-at-init : goal.loop-at-init

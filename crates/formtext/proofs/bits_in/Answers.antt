@@ -1,14 +1,12 @@
 -- `bits_in` meets its contract. The loop's invariant: the bits of the symbols passed are counted.
 -- Assumes nothing.
 use mathlib.Core.Path.{◌≡◌, refl, ap, ◌∙◌}
-use mathlib.Core.Logic.{inl, inr, ⊎_elim}
-use Prim.Native.Nat.{◌-◌, ◌≤◌}
+use mathlib.Core.Logic.{inl, inr}
 use native.Mathlib.Omega.{arith}
 use Rattle.base.specs.Totals.{total}
 use Rattle.masks.specs.Masks.{has}
 use Rattle.forms.specs.Form.{how_many}
 use Rattle.forms.proofs.Picking.{count_on}
-use borrow.Author.Rules.{rules}
 use Rattle.formtext.proofs.bits_in.Goals.{else-has_symbol, then-has_symbol}
 use Rattle.formtext.proofs.bits_in.Goals as goal
 

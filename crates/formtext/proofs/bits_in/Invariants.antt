@@ -1,14 +1,9 @@
 -- `bits_in` meets its contract. The loop's invariant: the bits of the symbols passed are counted.
 -- Assumes nothing.
-use mathlib.Core.Path.{◌≡◌, refl, ap, ◌∙◌}
-use mathlib.Core.Logic.{inl, inr, ⊎_elim}
+use mathlib.Core.Path.{◌≡◌}
 use Prim.Native.Nat.{◌-◌, ◌≤◌}
-use native.Mathlib.Omega.{arith}
-use Rattle.base.specs.Totals.{total}
 use Rattle.masks.specs.Masks.{has}
 use Rattle.forms.specs.Form.{how_many}
-use Rattle.forms.proofs.Picking.{count_on}
-use borrow.Author.Rules.{rules}
 use Rattle.formtext.proofs.bits_in.Given as goal
 
 abbrev pub invariant-loop-s : goal.invariant-loop-s

@@ -1,13 +1,8 @@
 -- `count_kept` meets its contract. The loop's invariant: the cells of the sets passed are counted.
 -- Assumes nothing.
-use mathlib.Core.Path.{◌≡◌, refl, ap, ◌∙◌}
+use mathlib.Core.Path.{◌≡◌}
 use Prim.Native.Nat.{◌*◌, ◌-◌, ◌≤◌}
-use native.Mathlib.Omega.{arith}
-use lib.ListN.{get_or}
-use Rattle.base.specs.Totals.{total}
-use Rattle.base.proofs.Totals.{total_more}
-use Rattle.formtext.specs.FormText.{bits_in, first_cell}
-use borrow.Author.Rules.{rules}
+use Rattle.formtext.specs.FormText.{first_cell}
 use Rattle.formtext.proofs.count_kept.Given as goal
 
 abbrev pub invariant-loop-t : goal.invariant-loop-t

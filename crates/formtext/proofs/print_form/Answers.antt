@@ -1,6 +1,5 @@
 -- `print_form` meets its contract. Assumes nothing.
 use native.Mathlib.Omega.{arith}
-use borrow.Author.Rules.{rules}
 use Rattle.ruletext.proofs.Lengths.{refused_most}
 use Rattle.formtext.proofs.Whole.{form_text_lem, refused_text_lem}
 use Rattle.formtext.proofs.print_form.Goals as goal

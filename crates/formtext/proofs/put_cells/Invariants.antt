@@ -1,13 +1,8 @@
 -- `put_cells` meets its contract. The loop's invariant: the first i cells are written. Assumes nothing.
-use mathlib.Core.Path.{◌≡◌}
 use Prim.Native.Nat.{◌+◌, ◌-◌, ◌≤◌}
-use native.Mathlib.Omega.{arith}
-use lib.ListN.{length, get_or}
-use Rattle.ruletext.specs.RuleText.{cell_text}
-use Rattle.ruletext.proofs.Lengths.{cell_most}
-use Rattle.text.proofs.Fitting.{Put, put, none_put, one_more}
+use lib.ListN.{length}
+use Rattle.text.proofs.Fitting.{Put}
 use Rattle.formtext.specs.FormText.{cells_text}
-use Rattle.formtext.proofs.Lengths.{cells_most}
 use Rattle.formtext.proofs.put_cells.Given as goal
 
 abbrev pub invariant-loop-i : goal.invariant-loop-i

@@ -1,5 +1,4 @@
 -- `put_form` meets its contract. Assumes nothing.
-use borrow.Author.Rules.{rules}
 use Rattle.formtext.proofs.Whole.{whole}
 use Rattle.formtext.proofs.put_form.Goals as goal
 

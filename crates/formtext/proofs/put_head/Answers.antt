@@ -1,6 +1,5 @@
 -- `put_head` meets its contract. Assumes nothing.
 use native.Mathlib.Nat.{le_refl}
-use borrow.Author.Rules.{rules}
 use Rattle.text.proofs.Rooms.{exact, left, fits, more, two}
 use Rattle.formtext.proofs.put_head.Goals as goal
 

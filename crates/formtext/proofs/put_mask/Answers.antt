@@ -1,5 +1,4 @@
 -- `put_mask` meets its contract. Assumes nothing.
-use borrow.Author.Rules.{rules}
 use native.Mathlib.Omega.{arith}
 use Rattle.text.proofs.Digits.{hex_length}
 use Rattle.text.proofs.Rooms.{exact, most, two}

@@ -1,5 +1,4 @@
 -- `put_named` meets its contract. Assumes nothing.
-use borrow.Author.Rules.{rules}
 use lib.ListN.{length}
 use Rattle.text.proofs.Rooms.{exact, left, two}
 use Rattle.formtext.proofs.put_named.Goals as goal

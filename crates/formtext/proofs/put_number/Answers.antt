@@ -1,6 +1,5 @@
 -- `put_number` meets its contract. Assumes nothing.
 use native.Mathlib.Omega.{arith}
-use borrow.Author.Rules.{rules}
 use Rattle.text.proofs.Rooms.{exact, most, fits, two}
 use Rattle.formtext.proofs.Lengths.{number_most}
 use Rattle.formtext.proofs.put_number.Goals as goal

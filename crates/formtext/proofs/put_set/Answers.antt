@@ -1,5 +1,4 @@
 -- `put_set` meets its contract. Assumes nothing.
-use borrow.Author.Rules.{rules}
 use native.Mathlib.Nat.{le_refl}
 use native.Mathlib.Omega.{arith}
 use Rattle.text.proofs.Rooms.{exact, most, left, fits, more, two}

@@ -1,16 +1,13 @@
 -- `put_sets` meets its contract. The loop's invariant: the lines of the sets passed are written, and
 -- so many cells stand in them. Assumes nothing.
 use mathlib.Core.Path.{◌≡◌, refl}
-use Prim.Native.Nat.{◌+◌, ◌*◌, ◌-◌, ◌≤◌}
 use native.Mathlib.Omega.{arith}
-use lib.ListN.{length, get_or}
-use Rattle.base.specs.Lists.{joined}
+use lib.ListN.{get_or}
 use Rattle.base.specs.Totals.{total}
 use Rattle.base.proofs.Totals.{total_more}
-use Rattle.text.proofs.Fitting.{Put, put, none_put, one_more}
-use Rattle.formtext.specs.FormText.{bits_in, first_cell, set_line}
+use Rattle.text.proofs.Fitting.{put, none_put, one_more}
+use Rattle.formtext.specs.FormText.{bits_in, set_line}
 use Rattle.formtext.proofs.Lengths.{first_most}
-use borrow.Author.Rules.{rules}
 use Rattle.formtext.proofs.put_sets.Goals as goal
 
 pub loop-t-init : goal.loop-t-init

@@ -1,16 +1,11 @@
 -- `put_sets` meets its contract. The loop's invariant: the lines of the sets passed are written, and
 -- so many cells stand in them. Assumes nothing.
-use mathlib.Core.Path.{◌≡◌, refl}
+use mathlib.Core.Path.{◌≡◌}
 use Prim.Native.Nat.{◌+◌, ◌*◌, ◌-◌, ◌≤◌}
-use native.Mathlib.Omega.{arith}
-use lib.ListN.{length, get_or}
+use lib.ListN.{length}
 use Rattle.base.specs.Lists.{joined}
-use Rattle.base.specs.Totals.{total}
-use Rattle.base.proofs.Totals.{total_more}
-use Rattle.text.proofs.Fitting.{Put, put, none_put, one_more}
-use Rattle.formtext.specs.FormText.{bits_in, first_cell, set_line}
-use Rattle.formtext.proofs.Lengths.{first_most}
-use borrow.Author.Rules.{rules}
+use Rattle.text.proofs.Fitting.{Put}
+use Rattle.formtext.specs.FormText.{first_cell, set_line}
 use Rattle.formtext.proofs.put_sets.Given as goal
 
 abbrev pub invariant-loop-t : goal.invariant-loop-t

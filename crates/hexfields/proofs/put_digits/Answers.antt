@@ -1,11 +1,11 @@
 -- `put_digits` meets its contract: the digits of the first i bytes are written. Assumes nothing.
 use mathlib.Core.Path.{◌≡◌, refl, ap, ◌∙◌}
-use Prim.Native.Nat.{◌+◌, ◌*◌, ◌-◌, ◌≤◌}
+use Prim.Native.Nat.{◌*◌}
 use native.Mathlib.Omega.{arith}
 use lib.ListN.{length, get_or, take}
 use lib.Seq.{take_all, length-take-le}
 use Rattle.text.proofs.Digits.{hex_length}
-use Rattle.text.proofs.Fitting.{Put, put, ◌then◌}
+use Rattle.text.proofs.Fitting.{put, ◌then◌}
 use Rattle.text.proofs.Pieces.{wrote_none}
 use Rattle.fields.specs.Claims.{digits_of}
 use Rattle.hexfields.proofs.Digits.{digits_length, digits_none, digits_more}

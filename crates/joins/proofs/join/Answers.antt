@@ -1,5 +1,4 @@
 -- `join` meets its contract. Assumes nothing.
-use borrow.Author.Rules.{rules}
 use Rattle.joins.proofs.join.Goals as goal
 
 pub returns : goal.returns

@@ -1,11 +1,9 @@
 -- `join_place` meets its contract: the union over the members below q. Assumes nothing.
 use mathlib.Core.Path.{◌≡◌, refl, sym, ◌∙◌}
-use Prim.Native.Nat.{◌-◌, ◌≤◌}
 use native.Mathlib.Omega.{arith}
-use borrow.Author.Rules.{rules}
 use Rattle.masks.specs.Masks.{union}
 use Rattle.delegates.proofs.Answer.{told_state, told_none}
-use Rattle.joins.proofs.Places.{added, no_member_here, passed_over, one_more}
+use Rattle.joins.proofs.Places.{no_member_here, passed_over, one_more}
 use Rattle.joins.proofs.join_place.Goals as goal
 
 pub loop-q-init : goal.loop-q-init

@@ -1,11 +1,8 @@
 -- `join_place` meets its contract: the union over the members below q. Assumes nothing.
-use mathlib.Core.Path.{◌≡◌, refl, sym, ◌∙◌}
+use mathlib.Core.Path.{◌≡◌}
 use Prim.Native.Nat.{◌-◌, ◌≤◌}
-use native.Mathlib.Omega.{arith}
-use borrow.Author.Rules.{rules}
 use Rattle.masks.specs.Masks.{union}
-use Rattle.delegates.proofs.Answer.{told_state, told_none}
-use Rattle.joins.proofs.Places.{added, no_member_here, passed_over, one_more}
+use Rattle.joins.proofs.Places.{added}
 use Rattle.joins.proofs.join_place.Given as goal
 
 abbrev pub invariant-loop-q : goal.invariant-loop-q

@@ -1,9 +1,7 @@
 -- `join_places` meets its contract: the set is C after the places passed. Assumes nothing.
 use mathlib.Core.Path.{◌≡◌, refl}
-use Prim.Native.Nat.{◌-◌, ◌≤◌}
 use native.Mathlib.Omega.{arith}
-use borrow.Author.Rules.{rules}
-use Rattle.joins.specs.Joining.{join_of, join_up_to}
+use Rattle.joins.specs.Joining.{join_of}
 use Rattle.joins.proofs.Places.{place_more}
 use Rattle.joins.proofs.join_places.Goals as goal
 

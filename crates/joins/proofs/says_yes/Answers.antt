@@ -1,5 +1,4 @@
 -- `says_yes` meets its contract. Assumes nothing.
-use borrow.Author.Rules.{rules}
 use Rattle.joins.proofs.says_yes.Goals as goal
 
 pub returns : goal.returns

@@ -1,7 +1,6 @@
 -- `ask_verdict` meets its contract. Assumes nothing.
 use mathlib.Core.Path.{ap₂, ◌∙◌}
 use Rattle.calls.specs.Calls.{report_by}
-use borrow.Author.Rules.{rules}
 use Rattle.board.specs.Boards.{summed_bytes}
 use Rattle.judge.proofs.ask_verdict.Goals as goal
 

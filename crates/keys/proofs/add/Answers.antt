@@ -1,7 +1,6 @@
 -- `add` meets its contract: once the key has its turn the arrays hold what `expand` asks for.
 -- Assumes nothing.
 use mathlib.Core.Path.{ap}
-use borrow.Author.Rules.{rules}
 use Rattle.numbering.proofs.Turns.{seed_asked, seed_added, seed_over}
 use Rattle.keys.specs.Kinds.{free_by, walk_in}
 use Rattle.keys.specs.mirror.Steps.{turn_means}

@@ -5,16 +5,14 @@
 -- there are at most 512 keys. Where the 513th turns up, that list goes on from the keys so far,
 -- since the procedure only appends. Assumes nothing.
 use mathlib.Core.Path.{◌≡◌, refl, ap, ◌∙◌}
-use Prim.Native.Nat.{ℕ, ◌+◌, ◌-◌, ◌*◌, ◌≤◌, ◌<◌, min}
+use Prim.Native.Nat.{ℕ, ◌+◌, ◌-◌, ◌<◌}
 use native.Mathlib.Omega.{arith}
 use lib.ListN.{length, get_or, take}
-use borrow.Author.Rules.{rules}
 use Rattle.numbering.specs.Numbering.{close_from}
-use Rattle.numbering.specs.mirror.Arrays.{ArraysHold}
 use Rattle.numbering.proofs.Closure.{keys_end}
 use Rattle.numbering.proofs.Arrays.{count-is}
 use Rattle.numbering.proofs.Table.{row_begins, row_ends}
-use Rattle.numbering.proofs.Turns.{expanded, turn_whole, row_done, row_more, row_over, grown_whole, grown_over}
+use Rattle.numbering.proofs.Turns.{turn_whole, row_done, row_more, row_over, grown_whole, grown_over}
 use Rattle.keys.specs.Kinds.{free_by, walk_in}
 use Rattle.keys.specs.Tables.{count_means}
 use Rattle.keys.proofs.expand.Goals as goal

@@ -1,10 +1,7 @@
 -- `find` meets its contract. Whole blocks without the key are passed first. The loop's invariant:
 -- the key stands at none of the places passed. So the place where it is found is the first, and
 -- where all are passed it has no number. Assumes nothing.
-use mathlib.Core.Path.{◌≡◌}
-use Prim.Native.Nat.{ℕ, ◌-◌, ◌≤◌, ◌<◌}
 use native.Mathlib.Omega.{arith}
-use lib.ListN.{get_or}
 use borrow.Author.Count.{below_more}
 use borrow.Author.Rules.{rules}
 use Rattle.numbering.proofs.Arrays.{found_at, found_none}

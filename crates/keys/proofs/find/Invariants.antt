@@ -3,11 +3,7 @@
 -- where all are passed it has no number. Assumes nothing.
 use mathlib.Core.Path.{◌≡◌}
 use Prim.Native.Nat.{ℕ, ◌-◌, ◌≤◌, ◌<◌}
-use native.Mathlib.Omega.{arith}
 use lib.ListN.{get_or}
-use borrow.Author.Count.{below_more}
-use borrow.Author.Rules.{rules}
-use Rattle.numbering.proofs.Arrays.{found_at, found_none}
 use Rattle.keys.proofs.find.Given as goal
 
 abbrev pub invariant-loop-i : goal.invariant-loop-i

@@ -1,13 +1,11 @@
 -- `hits` meets its contract: the cells before j are looked at. Assumes nothing.
 use mathlib.Core.Path.{◌≡◌, refl, sym, ◌∙◌}
-use mathlib.Core.Logic.{⊎_elim}
 use mathlib.Core.Bool.{Bool, false, or-false}
-use Prim.Native.Nat.{ℕ, ◌+◌, ◌-◌, ◌%◌, ◌^◌, ◌≤◌}
+use Prim.Native.Nat.{ℕ, ◌+◌, ◌%◌, ◌^◌}
 use native.Mathlib.Numerals.{add-one}
 use native.Mathlib.Omega.{arith}
 use lib.Dec.{eqb}
 use lib.ListN.{get_or}
-use borrow.Author.Rules.{rules}
 use borrow.Author.Tests.{eq-eqb, ne_eqb}
 use Rattle.base.specs.Conditions.{any_below}
 use Rattle.base.proofs.Conditions.{any_at}
@@ -32,9 +30,9 @@ loop-j-preserved c =
     let cell : ℕ = get_or a.keys.now (a.from + x.j) 0 % 2 ^ 32 in (
       omega arith,
       (elim c.if-lower-half.branch [
-      then-lower-half w ↦ w.found-is ∙ sym (any_at p (x.j + 1) x.j (omega arith) (eq-eqb cell a.half (sym low ∙ w.if-lower-half.true)))
-      | else-lower-half w ↦ w.found-is ∙ x.invariant.1 ∙ more p x.j (ne_eqb cell a.half (λ e. w.if-lower-half.false (low ∙ e)))
-    ]),
+        | then-lower-half w ↦ w.found-is ∙ sym (any_at p (x.j + 1) x.j (omega arith) (eq-eqb cell a.half (sym low ∙ w.if-lower-half.true)))
+        | else-lower-half w ↦ w.found-is ∙ x.invariant.1 ∙ more p x.j (ne_eqb cell a.half (λ e. w.if-lower-half.false (low ∙ e)))
+      ]),
     )
 
 pub returns : goal.returns

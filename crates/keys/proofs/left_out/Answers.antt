@@ -1,5 +1,4 @@
 -- `left_out` meets its contract. Assumes nothing.
-use borrow.Author.Rules.{rules}
 use Rattle.keys.proofs.left_out.Goals as goal
 
 pub returns-then-omit : goal.returns-then-omit

@@ -1,7 +1,6 @@
 -- `number` meets its contract, one way out at a time: the key has a number, it takes the next, or
 -- none is left. Assumes nothing.
 use mathlib.Core.Path.{refl, sym, ap, ◌∙◌}
-use borrow.Author.Rules.{rules}
 use Rattle.numbering.proofs.Arrays.{entered_kept, entered_taken, entered_full}
 use Rattle.keys.specs.Kinds.{nothing}
 use Rattle.keys.specs.mirror.Steps.{found_means}

@@ -3,7 +3,6 @@
 use mathlib.Core.Path.{refl}
 use native.Mathlib.Omega.{arith}
 use lib.ListN.{replicate}
-use borrow.Author.Rules.{rules}
 use Rattle.base.specs.Lists.{list_from}
 use Rattle.numbering.proofs.Turns.{begin}
 use Rattle.keys.specs.Kinds.{walk_by}

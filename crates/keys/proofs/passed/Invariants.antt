@@ -1,17 +1,8 @@
 -- `passed` meets its contract. The loop's invariant: the key stands at none of the places passed. A
 -- block with no hit has it nowhere, since a key has its own lower half. Assumes nothing.
-use mathlib.Core.Path.{◌≡◌, sym, ◌∙◌}
-use mathlib.Core.Bool.{false}
-use mathlib.Core.List.{List}
-use Prim.Native.Nat.{ℕ, ◌+◌, ◌-◌, ◌%◌, ◌^◌, ◌≤◌, ◌<◌}
-use native.Mathlib.Omega.{arith}
-use lib.Dec.{eqb, ltb}
+use mathlib.Core.Path.{◌≡◌}
+use Prim.Native.Nat.{ℕ, ◌-◌, ◌≤◌, ◌<◌}
 use lib.ListN.{get_or}
-use borrow.Author.Rules.{rules}
-use borrow.Author.Tests.{eqb-false, ltb-true, ltb-false}
-use Rattle.base.specs.Conditions.{any_below}
-use Rattle.base.proofs.Conditions.{none_at}
-use Rattle.base.proofs.Tests.{by_test}
 use Rattle.keys.proofs.passed.Given as goal
 
 abbrev pub invariant-loop-i : goal.invariant-loop-i

@@ -4,7 +4,6 @@ use mathlib.Core.Path.{◌≡◌, sym, ap, ◌∙◌}
 use mathlib.Core.Bool.{false}
 use native.Mathlib.Omega.{arith}
 use lib.ListN.{get_or, take}
-use borrow.Author.Rules.{rules}
 use Rattle.numbering.proofs.Arrays.{entered_any, stepped_skipped, stepped_whole, stepped_over}
 use Rattle.keys.specs.Kinds.{step_by, nothing, skips_by}
 use Rattle.keys.specs.mirror.Steps.{turn_means}

@@ -1,6 +1,5 @@
 -- `step_key` meets its contract, kind by kind. Assumes nothing.
 use mathlib.Core.Path.{sym, ap, ◌∙◌}
-use borrow.Author.Rules.{rules}
 use Rattle.keys.specs.declared.Kind.{Kind}
 use Rattle.keys.specs.Kinds.{step_by}
 use Rattle.keys.proofs.step_key.Goals as goal

@@ -1,6 +1,5 @@
 -- `step_set` meets its contract: the successor looks at the lowest 32 bits alone. Assumes nothing.
 use mathlib.Core.Path.{◌∙◌}
-use borrow.Author.Rules.{rules}
 use Rattle.keys.proofs.Stepping.{successor_low}
 use Rattle.keys.proofs.step_set.Goals as goal
 

@@ -1,8 +1,8 @@
 -- What the answers of the functions below `number_by` say, whose promises are in the words of
 -- numbering's specs/Arrays.antt. Nothing here needs to be believed: `table_by` says what they give.
 --
---   foundMeans       what each case of the search's answer says
---   turnMeans        what each case of a turn's answer says: the key's number and how many keys
+--   found_means      what each case of the search's answer says
+--   turn_means       what each case of a turn's answer says: the key's number and how many keys
 --                    there are then, none where it is the 513th
 use Rattle.std.proofs.Math.Option.{Option, none, some}
 use Rattle.std.specs.Prelude.{ℕ}

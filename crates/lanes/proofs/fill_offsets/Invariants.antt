@@ -1,14 +1,9 @@
 -- `fill_offsets` meets its contract. The cells before c have the row offsets, those from c on are
 -- still the empty set's. Assumes nothing.
-use mathlib.Core.Path.{◌≡◌, ap, ◌∙◌}
+use mathlib.Core.Path.{◌≡◌}
 use Prim.Native.Nat.{ℕ, ◌-◌, ◌≤◌, ◌<◌}
-use native.Mathlib.Omega.{arith}
-use borrow.Author.Rules.{rules}
-use lib.ListN.{length, get_or, length-set, length-replicate, get_or-replicate}
-use lib.Seq.{get_or-set_other}
-use Rattle.base.proofs.Lists.{cell_stored}
+use lib.ListN.{length, get_or}
 use Rattle.lanes.specs.mirror.Offsets.{row_of}
-use Rattle.lanes.proofs.Offsets.{filled_table}
 use Rattle.lanes.proofs.fill_offsets.Given as goal
 
 abbrev pub invariant-loop-c : goal.invariant-loop-c

@@ -1,14 +1,12 @@
 -- `follow` meets its contract. The loop's invariant is `Behind`. Assumes nothing.
 use mathlib.Core.Path.{◌≡◌, sym, ap, ◌∙◌}
-use mathlib.Core.Logic.{⊎_elim}
 use mathlib.Core.List.{List}
-use Prim.Native.Nat.{ℕ, ◌-◌, ◌≤◌, ◌<◌}
+use Prim.Native.Nat.{ℕ, ◌≤◌, ◌<◌}
 use native.Mathlib.Omega.{arith}
-use borrow.Author.Rules.{rules}
-use lib.ListN.{length, get_or, take, drop, set, length-set}
+use lib.ListN.{get_or, take, drop, set, length-set}
 use Rattle.base.proofs.Lists.{each_stored}
 use Rattle.lanes.specs.mirror.Offsets.{row_looked, rows_end}
-use Rattle.lanes.proofs.Following.{Behind, rest-is, behind_start, goes_on, behind_more, all_passed, all_dead_lem, behind_ends, behind_looked}
+use Rattle.lanes.proofs.Following.{rest-is, behind_start, goes_on, behind_more, all_passed, all_dead_lem, behind_ends, behind_looked}
 use Rattle.lanes.proofs.follow.Goals.{else-loop-i-test, then-loop-i-test+then-k-eq-LANES}
 use Rattle.lanes.proofs.follow.Goals as goal
 
@@ -98,9 +96,9 @@ returns c =
     let from = c.args.lane.now in
     let l = c.loop-i in
     let last : (k : ℕ) → 1 ≤ k → k < 8 → row_looked t (drop l.i w0) (get_or l.lane k 0) ≡ 0 =
-      elim c.loop-i-test.branch [
-        else-loop-i-test w ↦ all_passed t c.requires.0 w0 from c.requires.1 l.lane l.i l.invariant w.loop-i-test.false
-        | then-loop-i-test+then-k-eq-LANES w ↦
+    elim c.loop-i-test.branch [
+      | else-loop-i-test w ↦ all_passed t c.requires.0 w0 from c.requires.1 l.lane l.i l.invariant w.loop-i-test.false
+      | then-loop-i-test+then-k-eq-LANES w ↦
           all_dead_lem t c.requires.0 w0 from c.requires.1 l.lane l.i l.invariant w.living-k.result w.living-k.ensures w.if-k-eq-LANES.true
-      ] in
+    ] in
     record { value = behind_looked t c.requires.0 w0 from c.requires.1 l.lane l.i l.invariant c.requires.3 last; lane_after = behind_ends t c.requires.0 w0 from c.requires.1 l.lane l.i l.invariant c.requires.3 last }

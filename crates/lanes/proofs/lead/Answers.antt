@@ -1,10 +1,9 @@
 -- `lead` meets its contract. Each of the eight is on its run, and the first leads. Assumes nothing.
-use Prim.Native.Nat.{◌-◌, ◌<◌}
+use Prim.Native.Nat.{◌<◌}
 use native.Mathlib.Omega.{arith}
-use borrow.Author.Rules.{rules}
 use lib.ListN.{length, get_or, take, length-set}
 use Rattle.lanes.specs.mirror.Offsets.{row_end}
-use Rattle.lanes.proofs.Leading.{On, Leads, in_column, on_start, on_more, leads_start, leads_on, leads_off, leads_end, eight}
+use Rattle.lanes.proofs.Leading.{in_column, on_start, on_more, leads_start, leads_on, leads_off, leads_end, eight}
 use Rattle.lanes.proofs.lead.Goals as goal
 
 pub loop-i-init : goal.loop-i-init

@@ -1,8 +1,5 @@
 -- `living` meets its contract. The lanes passed are empty. Assumes nothing.
 use Prim.Native.Nat.{ℕ, ◌-◌, ◌≤◌, ◌<◌}
-use native.Mathlib.Omega.{arith}
-use borrow.Author.Rules.{rules}
-use borrow.Author.Count.{below_more}
 use lib.ListN.{get_or}
 use Rattle.lanes.proofs.living.Given as goal
 

@@ -4,18 +4,18 @@
 -- has died needs no test. Nothing here needs to be believed: the crate chunks ties it to the
 -- next-set table. A lane is where one of several runs stands that walk together.
 --
---   emptyRow            the row offset of the empty set
---   offsetCells         the cells of a table of row offsets: a row for each set, and one for the
+--   empty_row           the row offset of the empty set
+--   offset_cells        the cells of a table of row offsets: a row for each set, and one for the
 --                       empty set
---   laneCount           how many runs walk together
+--   lane_count          how many runs walk together
 --   row_of i             the row offset of set i; any number from 512 on stands for the empty set
---   offsetsOf next      the next-set table with row offsets, and with the empty set's row
---   hopOf t r b         the row offset to which the byte b leads from the row offset r
---   rowEnd, rowCount, rowLooked    a walk over the bytes w from the row offset r: where it ends, how
+--   offsets_of next     the next-set table with row offsets, and with the empty set's row
+--   hop_of t r b        the row offset to which the byte b leads from the row offset r
+--   row_end, row_count, row_looked  a walk over the bytes w from the row offset r: where it ends, how
 --                       many of its steps lead to a set that is not empty, and for how many bytes
 --                       it looks a successor up
---   rowsEnd, rowsCount  the same of each of n row offsets, as an array
---   rowsLooked          for how many bytes any of these walks looks a successor up
+--   rows_end, rows_count  the same of each of n row offsets, as an array
+--   rows_looked         for how many bytes any of these walks looks a successor up
 --   RowTable t          t is a table of row offsets: no cell leads past the empty set's row, which
 --                       leads to itself
 --   Rows rows           each of them is the empty set's row offset or less

@@ -1,11 +1,8 @@
 -- `begins_with` meets its contract. The loop's invariant: the text begins with the head exactly
 -- when what follows i begins with the rest of the head. Assumes nothing.
-use mathlib.Core.Path.{◌≡◌, refl, sym, ◌∙◌}
-use Prim.Native.Nat.{◌-◌, ◌≤◌}
+use mathlib.Core.Path.{refl, sym, ◌∙◌}
 use native.Mathlib.Omega.{arith}
 use borrow.Author.Rules.{rules}
-use lib.ListN.{length, drop}
-use Rattle.lines.specs.Splitting.{begins}
 use Rattle.lines.proofs.Splits.{begins_not, begins_on, begins_end, begins_short}
 use Rattle.lines.proofs.begins_with.Goals as goal
 

@@ -1,12 +1,9 @@
 -- `begins_with` meets its contract. The loop's invariant: the text begins with the head exactly
 -- when what follows i begins with the rest of the head. Assumes nothing.
-use mathlib.Core.Path.{◌≡◌, refl, sym, ◌∙◌}
+use mathlib.Core.Path.{◌≡◌}
 use Prim.Native.Nat.{◌-◌, ◌≤◌}
-use native.Mathlib.Omega.{arith}
-use borrow.Author.Rules.{rules}
 use lib.ListN.{length, drop}
 use Rattle.lines.specs.Splitting.{begins}
-use Rattle.lines.proofs.Splits.{begins_not, begins_on, begins_end, begins_short}
 use Rattle.lines.proofs.begins_with.Given as goal
 
 abbrev pub invariant-loop-i : goal.invariant-loop-i

@@ -1,11 +1,7 @@
 -- `find` meets its contract. The loop's invariant: the first such byte from `from` on is the first
 -- from i on. Assumes nothing.
-use mathlib.Core.Path.{◌≡◌, refl, ◌∙◌}
-use Prim.Native.Nat.{◌+◌, ◌-◌}
+use mathlib.Core.Path.{refl, ◌∙◌}
 use native.Mathlib.Omega.{arith}
-use borrow.Author.Rules.{rules}
-use lib.ListN.{length, drop}
-use Rattle.lines.specs.Splitting.{up_to}
 use Rattle.lines.proofs.Splits.{up_here, up_on, up_end}
 use Rattle.lines.proofs.find.Goals as goal
 

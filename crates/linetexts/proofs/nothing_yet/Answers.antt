@@ -1,7 +1,6 @@
 -- `nothing_yet` meets its contract. Assumes nothing.
 use mathlib.Core.Path.{ap}
 use mathlib.Core.Bool.{false}
-use borrow.Author.Rules.{rules}
 use Rattle.longlines.specs.declared.Held.{Held}
 use Rattle.linetexts.specs.declared.Pending.{Pending}
 use Rattle.linetexts.proofs.nothing_yet.Goals as goal

@@ -1,14 +1,10 @@
 -- `leads` meets its contract. The loop's invariant: no symbol passed leads there. Assumes nothing.
-use mathlib.Core.Path.{◌≡◌, sym, ap, ◌∙◌}
+use mathlib.Core.Path.{◌≡◌}
 use mathlib.Core.Bool.{false}
-use Prim.Native.Nat.{ℕ, ◌-◌, ◌≤◌, ◌<◌}
-use native.Mathlib.Omega.{arith}
-use borrow.Author.Rules.{rules}
+use Prim.Native.Nat.{◌-◌, ◌≤◌, ◌<◌}
 use Rattle.base.specs.Conditions.{any_below}
-use Rattle.base.proofs.Conditions.{none_yet, none_more, any_at}
 use Rattle.masks.specs.Masks.{shares}
 use Rattle.automaton.specs.Rules.{target_mask}
-use Rattle.live.proofs.Backwards.{cell}
 use Rattle.live.proofs.leads.Given as goal
 
 abbrev pub invariant-loop-s : goal.invariant-loop-s

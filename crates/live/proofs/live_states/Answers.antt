@@ -1,8 +1,6 @@
 -- `live_states` meets its contract. Where a round adds nothing, no later one does. Assumes nothing.
 use mathlib.Core.Path.{◌≡◌, refl, sym, ap, ◌∙◌}
-use Prim.Native.Nat.{◌≤◌, ◌-◌}
 use native.Mathlib.Omega.{arith}
-use borrow.Author.Rules.{rules}
 use Rattle.masks.specs.Turns.{turns}
 use Rattle.masks.proofs.Turns.{turns_more, turns_whole}
 use Rattle.live.specs.Live.{back_to, within}

@@ -1,11 +1,7 @@
 -- `live_states` meets its contract. Where a round adds nothing, no later one does. Assumes nothing.
-use mathlib.Core.Path.{◌≡◌, refl, sym, ap, ◌∙◌}
+use mathlib.Core.Path.{◌≡◌}
 use Prim.Native.Nat.{◌≤◌, ◌-◌}
-use native.Mathlib.Omega.{arith}
-use borrow.Author.Rules.{rules}
-use Rattle.masks.specs.Turns.{turns}
-use Rattle.masks.proofs.Turns.{turns_more, turns_whole}
-use Rattle.live.specs.Live.{back_to, within}
+use Rattle.live.specs.Live.{within}
 use Rattle.live.proofs.live_states.Given as goal
 
 abbrev pub invariant-loop-i : goal.invariant-loop-i

@@ -1,5 +1,4 @@
 -- `find_by_table` meets its contract. Assumes nothing.
-use borrow.Author.Rules.{rules}
 use Rattle.locating.proofs.Spotting.{table_nowhere, table_after}
 use Rattle.locating.proofs.find_by_table.Goals as goal
 

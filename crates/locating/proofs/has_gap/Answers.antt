@@ -1,13 +1,8 @@
 -- `has_gap` meets its contract: no place passed is empty. Assumes nothing.
 use mathlib.Core.Path.{◌≡◌, sym}
 use mathlib.Core.Bool.{false}
-use Prim.Native.Nat.{◌-◌, ◌≤◌}
 use native.Mathlib.Omega.{arith}
-use borrow.Author.Rules.{rules}
 use borrow.Author.Tests.{eq-eqb, ne_eqb}
-use lib.Dec.{eqb}
-use lib.ListN.{get_or}
-use Rattle.base.specs.Conditions.{any_below}
 use Rattle.base.proofs.Conditions.{any_at, none_yet, none_more}
 use Rattle.locating.proofs.has_gap.Goals as goal
 

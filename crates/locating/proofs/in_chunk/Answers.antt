@@ -1,6 +1,5 @@
 -- `in_chunk` meets its contract. Assumes nothing.
 use mathlib.Core.Path.{sym, ap, ◌∙◌}
-use borrow.Author.Rules.{rules}
 use Rattle.locating.specs.Locating.{stuck_after, located_means, in_chunk}
 use Rattle.locating.specs.declared.Located.{Located}
 use Rattle.locating.proofs.in_chunk.Goals as goal

@@ -1,6 +1,5 @@
 -- `kept_cell` meets its contract. Assumes nothing.
 use mathlib.Core.Path.{sym, ◌∙◌}
-use borrow.Author.Rules.{rules}
 use Rattle.locating.proofs.Pruning.{cell_kept, cell_dropped}
 use Rattle.locating.proofs.kept_cell.Goals as goal
 

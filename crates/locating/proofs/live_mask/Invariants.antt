@@ -1,13 +1,8 @@
 -- `live_mask` meets its contract. The loop's invariant: the set has the live states below q. Assumes
 -- nothing.
-use mathlib.Core.Path.{◌≡◌, refl, ap, ap₂, ◌∙◌}
-use mathlib.Core.Logic.{⊎_elim}
+use mathlib.Core.Path.{◌≡◌}
 use Prim.Native.Nat.{◌-◌, ◌≤◌, min}
-use native.Mathlib.Omega.{arith}
-use borrow.Author.Rules.{rules}
-use lib.Bits.{bit_or}
 use Rattle.locating.specs.mirror.Pruning.{live_set}
-use Rattle.locating.proofs.Pruning.{live_more, live_other}
 use Rattle.locating.proofs.live_mask.Given as goal
 
 abbrev pub invariant-loop-q : goal.invariant-loop-q

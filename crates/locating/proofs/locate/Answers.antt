@@ -1,5 +1,4 @@
 -- `locate` meets its contract: each way out has its lemma. Assumes nothing.
-use borrow.Author.Rules.{rules}
 use Rattle.locating.proofs.Spotting.{locate_21, locate_11, locate_12, located}
 use Rattle.locating.proofs.locate.Goals as goal
 

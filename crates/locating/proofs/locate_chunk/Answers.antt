@@ -1,6 +1,5 @@
 -- `locate_chunk` meets its contract: a chunk without marks is its own text. Assumes nothing.
 use mathlib.Core.Path.{sym, ◌∙◌}
-use borrow.Author.Rules.{rules}
 use Rattle.locating.proofs.Spotting.{unmarked_text}
 use Rattle.locating.proofs.locate_chunk.Goals as goal
 

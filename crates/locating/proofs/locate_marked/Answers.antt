@@ -10,7 +10,6 @@ use Rattle.text.proofs.Fitting.{taken}
 use Rattle.text.proofs.Rooms.{whole_within}
 use Rattle.marks.specs.Marks.{text_of}
 use Rattle.marks.proofs.Claims as marks
-use borrow.Author.Rules.{rules}
 use Rattle.locating.specs.mirror.Pruning.{pruned}
 use Rattle.locating.specs.Locating.{text_spot}
 use Rattle.locating.proofs.Spotting.{marked_found}

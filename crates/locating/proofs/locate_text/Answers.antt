@@ -1,6 +1,5 @@
 -- `locate_text` meets its contract: each way out is a case of `text_spot`. Assumes nothing.
 use mathlib.Core.Path.{sym, ◌∙◌}
-use borrow.Author.Rules.{rules}
 use Rattle.locating.proofs.Spotting.{text_13, text_23, text_found}
 use Rattle.locating.proofs.locate_text.Goals as goal
 

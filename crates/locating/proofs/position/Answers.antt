@@ -1,10 +1,9 @@
 -- `position` meets its contract: what is passed and what is left to pass make the whole. Assumes
 -- nothing.
-use mathlib.Core.Path.{◌≡◌, sym, ap, ◌∙◌}
-use mathlib.Core.Logic.{⊎_elim}
-use Prim.Native.Nat.{ℕ, ◌+◌, ◌-◌, ◌≤◌}
+use mathlib.Core.Path.{sym, ap, ◌∙◌}
+use Prim.Native.Nat.{ℕ, ◌+◌}
 use native.Mathlib.Omega.{arith}
-use lib.ListN.{length, drop}
+use lib.ListN.{drop}
 use Rattle.locating.specs.Positions.{position_of}
 use Rattle.locating.proofs.Positions.{found_here, at-end, past_mark, past_byte}
 use Rattle.locating.proofs.position.Goals.{else-chunk-i, then-chunk-i}

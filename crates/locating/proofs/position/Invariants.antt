@@ -1,12 +1,9 @@
 -- `position` meets its contract: what is passed and what is left to pass make the whole. Assumes
 -- nothing.
-use mathlib.Core.Path.{◌≡◌, sym, ap, ◌∙◌}
-use mathlib.Core.Logic.{⊎_elim}
-use Prim.Native.Nat.{ℕ, ◌+◌, ◌-◌, ◌≤◌}
-use native.Mathlib.Omega.{arith}
+use mathlib.Core.Path.{◌≡◌}
+use Prim.Native.Nat.{◌+◌, ◌-◌, ◌≤◌}
 use lib.ListN.{length, drop}
 use Rattle.locating.specs.Positions.{position_of}
-use Rattle.locating.proofs.Positions.{found_here, at-end, past_mark, past_byte}
 use Rattle.locating.proofs.position.Given as goal
 
 abbrev pub invariant-loop-i : goal.invariant-loop-i

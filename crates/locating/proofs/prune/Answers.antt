@@ -1,10 +1,9 @@
 -- `prune` meets its contract: each cell below c is kept as it must be, and the others are empty.
 -- Assumes nothing.
-use Prim.Native.Nat.{ℕ, ◌-◌, ◌≤◌}
+use Prim.Native.Nat.{ℕ}
 use native.Mathlib.Omega.{arith}
-use borrow.Author.Rules.{rules}
 use lib.ListN.{length-replicate, get_or-replicate}
-use Rattle.locating.proofs.Pruning.{Kept, one_kept, all_kept}
+use Rattle.locating.proofs.Pruning.{one_kept, all_kept}
 use Rattle.locating.proofs.prune.Goals as goal
 
 pub loop-c-init : goal.loop-c-init

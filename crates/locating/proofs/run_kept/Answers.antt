@@ -1,9 +1,8 @@
 -- `run_kept` meets its contract. Assumes nothing.
 use mathlib.Core.Path.{ap, ◌∙◌}
-use Prim.Native.Nat.{◌+◌, ◌-◌, ◌≤◌, ◌<◌}
+use Prim.Native.Nat.{◌+◌}
 use native.Mathlib.Omega.{arith}
 use borrow.Author.Rules.{rules}
-use lib.ListN.{length}
 use Rattle.chunks.specs.mirror.Walks.{mask_of}
 use Rattle.locating.specs.mirror.Pruning.{pruned}
 use Rattle.locating.proofs.ByRun.{Ran, not_yet, run_dead, run_next, run_whole}

@@ -1,12 +1,8 @@
 -- `run_kept` meets its contract. Assumes nothing.
-use mathlib.Core.Path.{ap, ◌∙◌}
-use Prim.Native.Nat.{◌+◌, ◌-◌, ◌≤◌, ◌<◌}
-use native.Mathlib.Omega.{arith}
-use borrow.Author.Rules.{rules}
+use Prim.Native.Nat.{◌-◌, ◌≤◌, ◌<◌}
 use lib.ListN.{length}
-use Rattle.chunks.specs.mirror.Walks.{mask_of}
 use Rattle.locating.specs.mirror.Pruning.{pruned}
-use Rattle.locating.proofs.ByRun.{Ran, not_yet, run_dead, run_next, run_whole}
+use Rattle.locating.proofs.ByRun.{Ran}
 use Rattle.locating.proofs.run_kept.Given as goal
 
 abbrev pub invariant-loop-i : goal.invariant-loop-i

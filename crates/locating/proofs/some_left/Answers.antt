@@ -1,13 +1,8 @@
 -- `some_left` meets its contract: every end set passed is empty. Assumes nothing.
 use mathlib.Core.Path.{◌≡◌, sym}
 use mathlib.Core.Bool.{false}
-use Prim.Native.Nat.{◌-◌, ◌≤◌}
 use native.Mathlib.Omega.{arith}
-use borrow.Author.Rules.{rules}
 use borrow.Author.Tests.{lt-ltb, le-ltb}
-use lib.Dec.{ltb}
-use lib.ListN.{get_or}
-use Rattle.base.specs.Conditions.{any_below}
 use Rattle.base.proofs.Conditions.{any_at, none_yet, none_more}
 use Rattle.locating.proofs.some_left.Goals as goal
 

@@ -2,8 +2,8 @@
 -- a run over it dies where nothing can follow. Nothing here needs to be believed: crates/losses says
 -- what it comes to for a built rule.
 --
---   liveSet d n            the states below n that have a delegate, as a set
---   keptCell sets live c   the cell c where its set has a state of `live`, else the empty set
+--   live_set d n           the states below n that have a delegate, as a set
+--   kept_cell sets live c  the cell c where its set has a state of `live`, else the empty set
 --   pruned sets next live count   the table whose cells are kept so in the rows of the first sets, so
 --                          many as count says; the others are empty
 use Rattle.std.specs.Prelude.{cond, List, ℕ, zero, suc, ◌*◌, ltb, get_or}

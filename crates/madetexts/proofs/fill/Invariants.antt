@@ -1,13 +1,10 @@
 -- `fill` meets its contract. The loop's invariant: what is filled in, and then the text made from the
 -- value reached, is the whole text. Assumes nothing.
-use mathlib.Core.Path.{◌≡◌, refl}
+use mathlib.Core.Path.{◌≡◌}
 use mathlib.Core.List.{◌++◌}
 use Prim.Native.Nat.{◌≤◌, ◌-◌}
-use native.Mathlib.Omega.{arith}
 use lib.ListN.{length, take}
-use borrow.Author.Rules.{rules}
 use Rattle.madetexts.specs.Values.{made_text}
-use Rattle.madetexts.proofs.Filling.{filled_none, filled_more, filled_all, filled_less, below_byte}
 use Rattle.madetexts.proofs.fill.Given as goal
 
 abbrev pub invariant-loop-i : goal.invariant-loop-i

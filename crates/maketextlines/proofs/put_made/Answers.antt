@@ -1,7 +1,6 @@
 -- `put_made` meets its contract. Assumes nothing.
 use native.Mathlib.Omega.{arith}
 use Rattle.maketextlines.proofs.Writing.{byte_left, made_line, refused_line_lem}
-use borrow.Author.Rules.{rules}
 use Rattle.maketextlines.proofs.put_made.Goals as goal
 
 pub put_byte-requires : goal.put_byte-requires

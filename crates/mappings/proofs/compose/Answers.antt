@@ -1,9 +1,7 @@
 -- `compose` meets its contract, cell by cell. Assumes nothing.
-use mathlib.Core.Path.{◌≡◌, refl, ◌∙◌}
-use Prim.Native.Nat.{ℕ, ◌-◌, ◌≤◌, ◌<◌}
+use mathlib.Core.Path.{refl, ◌∙◌}
 use native.Mathlib.Omega.{arith}
-use lib.ListN.{length, get_or, length-set}
-use borrow.Author.Rules.{rules}
+use lib.ListN.{get_or, length-set}
 use Rattle.base.proofs.Lists.{cell_stored, is_list_from}
 use Rattle.mappings.specs.Mappings.{image}
 use Rattle.mappings.proofs.compose.Goals as goal

@@ -1,10 +1,7 @@
 -- `compose` meets its contract, cell by cell. Assumes nothing.
-use mathlib.Core.Path.{◌≡◌, refl, ◌∙◌}
+use mathlib.Core.Path.{◌≡◌}
 use Prim.Native.Nat.{ℕ, ◌-◌, ◌≤◌, ◌<◌}
-use native.Mathlib.Omega.{arith}
-use lib.ListN.{length, get_or, length-set}
-use borrow.Author.Rules.{rules}
-use Rattle.base.proofs.Lists.{cell_stored, is_list_from}
+use lib.ListN.{length, get_or}
 use Rattle.mappings.specs.Mappings.{image}
 use Rattle.mappings.proofs.compose.Given as goal
 

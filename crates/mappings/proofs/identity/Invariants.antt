@@ -1,11 +1,9 @@
 -- `identity` meets its contract, mask by mask. Assumes nothing.
-use mathlib.Core.Path.{◌≡◌, refl, ◌∙◌}
+use mathlib.Core.Path.{◌≡◌}
 use mathlib.Core.Bool.{cond}
 use Prim.Native.Nat.{ℕ, ◌-◌, ◌≤◌, ◌<◌}
-use native.Mathlib.Omega.{arith}
-use lib.ListN.{length, get_or, length-set}
+use lib.ListN.{length, get_or}
 use lib.Dec.{ltb}
-use Rattle.base.proofs.Lists.{cell_stored, is_list_from}
 use Rattle.masks.specs.Masks.{single}
 use Rattle.mappings.proofs.identity.Given as goal
 

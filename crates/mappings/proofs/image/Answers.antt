@@ -1,7 +1,7 @@
 -- `image` meets its contract. The loop goes through the bits from state 0 up, as in the successor of a set. Assumes nothing.
 use mathlib.Core.Path.{◌≡◌, refl, sym, ap, ◌∙◌}
 use mathlib.Core.Logic.{⊎_elim}
-use Prim.Native.Nat.{ℕ, ◌-◌, ◌/◌, ◌^◌, ◌≤◌, ◌<◌}
+use Prim.Native.Nat.{ℕ, ◌/◌, ◌^◌, ◌≤◌, ◌<◌}
 use native.Mathlib.Nat.{div-one, div-eq_of_lt, eq-or-lt_of_le}
 use native.Mathlib.Omega.{arith}
 use lib.Bits.{bit_or}
@@ -40,9 +40,9 @@ loop-rest-preserved c =
       omega (arith, state-left (goal.at.loop-rest-preserved c).In-loop-rest),
       ap (λ (y : ℕ). y / 2) x.invariant.1 ∙ shr-shr a.set x.q 1,
       (elim c.if-rest-eq1.branch [
-      then-rest-eq1 w ↦ w.out-is ∙ ap (λ (y : ℕ). bit_or y (get_or a.masks.now x.q 0)) x.invariant.2 ∙ union_step f a.set x.q (rw x.invariant.1 at w.if-rest-eq1.true)
-      | else-rest-eq1 w ↦ w.out-is ∙ x.invariant.2 ∙ union_skip f a.set x.q (rw x.invariant.1 at w.if-rest-eq1.false)
-    ]),
+        | then-rest-eq1 w ↦ w.out-is ∙ ap (λ (y : ℕ). bit_or y (get_or a.masks.now x.q 0)) x.invariant.2 ∙ union_step f a.set x.q (rw x.invariant.1 at w.if-rest-eq1.true)
+        | else-rest-eq1 w ↦ w.out-is ∙ x.invariant.2 ∙ union_skip f a.set x.q (rw x.invariant.1 at w.if-rest-eq1.false)
+      ]),
     )
 
 pub returns : goal.returns

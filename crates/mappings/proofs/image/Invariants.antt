@@ -1,15 +1,8 @@
 -- `image` meets its contract. The loop goes through the bits from state 0 up, as in the successor of a set. Assumes nothing.
-use mathlib.Core.Path.{◌≡◌, refl, sym, ap, ◌∙◌}
-use mathlib.Core.Logic.{⊎_elim}
-use Prim.Native.Nat.{ℕ, ◌-◌, ◌/◌, ◌^◌, ◌≤◌, ◌<◌}
-use native.Mathlib.Nat.{div-one, div-eq_of_lt, eq-or-lt_of_le}
-use native.Mathlib.Omega.{arith}
-use lib.Bits.{bit_or}
+use mathlib.Core.Path.{◌≡◌}
+use Prim.Native.Nat.{◌-◌, ◌/◌, ◌^◌, ◌≤◌}
 use lib.ListN.{get_or}
-use lib.Pow.{shr-shr}
-use borrow.Author.Rules.{rules}
 use Rattle.masks.specs.Masks.{union}
-use Rattle.masks.proofs.Laws.{low_bits, union_step, union_skip, union_all}
 use Rattle.mappings.proofs.image.Given as goal
 
 abbrev pub invariant-loop-rest : goal.invariant-loop-rest

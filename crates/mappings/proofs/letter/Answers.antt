@@ -1,9 +1,8 @@
 -- `letter` meets its contract, mask by mask. Assumes nothing.
-use mathlib.Core.Path.{◌≡◌, refl, ◌∙◌}
-use Prim.Native.Nat.{ℕ, ◌-◌, ◌≤◌, ◌<◌}
+use mathlib.Core.Path.{refl, ◌∙◌}
 use Prim.Native.Nat.{◌%◌, ◌^◌}
 use native.Mathlib.Omega.{arith}
-use lib.ListN.{length, get_or, length-set}
+use lib.ListN.{length-set}
 use Rattle.base.proofs.Lists.{cell_stored, is_list_from}
 use Rattle.automaton.specs.Rules.{target_mask}
 use Rattle.mappings.proofs.letter.Goals as goal

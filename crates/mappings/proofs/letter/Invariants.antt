@@ -1,10 +1,8 @@
 -- `letter` meets its contract, mask by mask. Assumes nothing.
-use mathlib.Core.Path.{◌≡◌, refl, ◌∙◌}
+use mathlib.Core.Path.{◌≡◌}
 use Prim.Native.Nat.{ℕ, ◌-◌, ◌≤◌, ◌<◌}
 use Prim.Native.Nat.{◌%◌, ◌^◌}
-use native.Mathlib.Omega.{arith}
-use lib.ListN.{length, get_or, length-set}
-use Rattle.base.proofs.Lists.{cell_stored, is_list_from}
+use lib.ListN.{length, get_or}
 use Rattle.automaton.specs.Rules.{target_mask}
 use Rattle.mappings.proofs.letter.Given as goal
 

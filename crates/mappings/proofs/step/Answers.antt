@@ -1,6 +1,5 @@
 -- `step` meets its contract. Assumes nothing.
 use mathlib.Core.Path.{ap, ap₂, ◌∙◌}
-use borrow.Author.Rules.{rules}
 use Rattle.mappings.specs.Mappings.{compose}
 use Rattle.mappings.specs.Packing.{pack}
 use Rattle.mappings.proofs.step.Goals as goal

@@ -1,6 +1,5 @@
 -- `target` meets its contract. Assumes nothing.
 use borrow.Author.Tests.{lt-ltb, le-ltb}
-use borrow.Author.Rules.{rules}
 use Rattle.mappings.proofs.target.Goals as goal
 
 pub returns-then-symbol-ge-MOST_SYMBOLS : goal.returns-then-symbol-ge-MOST_SYMBOLS

@@ -1,10 +1,10 @@
 -- `unpack` meets its contract: what is left of the number is what stands above the masks passed. Assumes
 -- nothing.
 use mathlib.Core.Path.{◌≡◌, refl, sym, ap, ◌∙◌}
-use Prim.Native.Nat.{ℕ, ◌*◌, ◌+◌, ◌-◌, ◌/◌, ◌%◌, ◌^◌, ◌≤◌, ◌<◌}
+use Prim.Native.Nat.{ℕ, ◌*◌, ◌+◌, ◌/◌, ◌%◌, ◌^◌}
 use native.Mathlib.Nat.{div-one}
 use native.Mathlib.Omega.{arith}
-use lib.ListN.{length, get_or, length-set}
+use lib.ListN.{length-set}
 use lib.Pow.{shr-shr}
 use Rattle.base.proofs.Lists.{cell_stored, is_list_from}
 use Rattle.mappings.proofs.unpack.Goals as goal

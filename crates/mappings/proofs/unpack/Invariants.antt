@@ -1,12 +1,8 @@
 -- `unpack` meets its contract: what is left of the number is what stands above the masks passed. Assumes
 -- nothing.
-use mathlib.Core.Path.{◌≡◌, refl, sym, ap, ◌∙◌}
-use Prim.Native.Nat.{ℕ, ◌*◌, ◌+◌, ◌-◌, ◌/◌, ◌%◌, ◌^◌, ◌≤◌, ◌<◌}
-use native.Mathlib.Nat.{div-one}
-use native.Mathlib.Omega.{arith}
-use lib.ListN.{length, get_or, length-set}
-use lib.Pow.{shr-shr}
-use Rattle.base.proofs.Lists.{cell_stored, is_list_from}
+use mathlib.Core.Path.{◌≡◌}
+use Prim.Native.Nat.{ℕ, ◌*◌, ◌-◌, ◌/◌, ◌%◌, ◌^◌, ◌≤◌, ◌<◌}
+use lib.ListN.{length, get_or}
 use Rattle.mappings.proofs.unpack.Given as goal
 
 abbrev pub invariant-loop-q : goal.invariant-loop-q

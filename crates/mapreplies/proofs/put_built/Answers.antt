@@ -1,7 +1,6 @@
 -- `put_built` meets its contract. Assumes nothing.
 use native.Mathlib.Omega.{arith}
 use lib.ListN.{length-append}
-use borrow.Author.Rules.{rules}
 use Rattle.answers.proofs.Lengths.{half_most}
 use Rattle.mapreplies.proofs.put_built.Goals as goal
 

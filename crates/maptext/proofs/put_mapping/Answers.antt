@@ -1,15 +1,13 @@
 -- `put_mapping` meets its contract. The loop's invariant: the digits of the first q masks are written.
 -- Assumes nothing.
 use mathlib.Core.Path.{◌≡◌}
-use Prim.Native.Nat.{◌+◌, ◌-◌, ◌≤◌}
+use Prim.Native.Nat.{◌+◌, ◌≤◌}
 use native.Mathlib.Omega.{arith}
 use lib.ListN.{length, get_or}
-use borrow.Author.Rules.{rules}
-use Rattle.base.specs.Lists.{joined}
 use Rattle.base.proofs.Lists.{length_exact}
 use Rattle.text.specs.Numerals.{hex}
 use Rattle.text.proofs.Digits.{hex_length}
-use Rattle.text.proofs.Fitting.{Put, put, none_put, one_more}
+use Rattle.text.proofs.Fitting.{put, none_put, one_more}
 use Rattle.maptext.proofs.put_mapping.Goals as goal
 
 pub loop-q-init : goal.loop-q-init

@@ -1,6 +1,5 @@
 -- `read_mapping` meets its contract. Assumes nothing.
 use mathlib.Core.Path.{ap}
-use borrow.Author.Rules.{rules}
 use Rattle.fields.specs.Bytes.{bytes_means}
 use Rattle.maptext.proofs.Reading.{not_sixteen, read_none, read_some}
 use Rattle.maptext.proofs.read_mapping.Goals as goal

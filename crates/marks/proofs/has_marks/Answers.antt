@@ -1,12 +1,7 @@
 -- `has_marks` meets its contract. The loop's invariant: the chunk has a mark exactly where one was
 -- found or one is left. Assumes nothing.
-use mathlib.Core.Path.{◌≡◌, refl, sym, ◌∙◌}
-use mathlib.Core.Logic.{⊎_elim}
-use mathlib.Core.Bool.{◌||◌}
-use Prim.Native.Nat.{◌-◌, ◌≤◌}
+use mathlib.Core.Path.{refl, sym, ◌∙◌}
 use borrow.Author.Rules.{rules}
-use lib.ListN.{length, drop}
-use Rattle.marks.specs.Marks.{marked}
 use Rattle.marks.proofs.Laws.{marked_here, marked_on, marked_none}
 use Rattle.marks.proofs.has_marks.Goals.{else-chunk-i, then-chunk-i}
 use Rattle.marks.proofs.has_marks.Goals as goal

@@ -1,11 +1,7 @@
 -- `pack` meets its contract. The loop's invariant: the text of the bytes passed stands at the start
 -- of the buffer, and has no more bytes than were passed. Assumes nothing.
-use mathlib.Core.Logic.{⊎_elim}
-use Prim.Native.Nat.{◌-◌}
 use native.Mathlib.Omega.{arith}
-use borrow.Author.Rules.{rules}
-use lib.ListN.{length}
-use Rattle.marks.proofs.Packing.{Packed, begun, passed, put, whole}
+use Rattle.marks.proofs.Packing.{begun, passed, put, whole}
 use Rattle.marks.proofs.pack.Goals.{else-b, then-b}
 use Rattle.marks.proofs.pack.Goals as goal
 

@@ -1,5 +1,4 @@
 -- `one_moves` meets its contract. Assumes nothing.
-use borrow.Author.Rules.{rules}
 use native.Mathlib.Omega.{arith}
 use Rattle.merge.proofs.Numbers.{small_left, small_right}
 use Rattle.merge.proofs.Ways.{first_moves, second_moves, moved}

@@ -1,8 +1,7 @@
 -- `pairs` meets its contract: `out` is the union over the members below q, and `at` is q * n2.
 -- Assumes nothing.
 use mathlib.Core.Path.{◌≡◌, refl, ap, ◌∙◌}
-use mathlib.Core.Logic.{⊎_elim}
-use Prim.Native.Nat.{ℕ, ◌+◌, ◌-◌, ◌*◌, ◌^◌, ◌≤◌, ◌<◌}
+use Prim.Native.Nat.{ℕ, ◌+◌, ◌*◌, ◌^◌, ◌≤◌, ◌<◌}
 use native.Mathlib.Omega.{arith}
 use lib.Bits.{bit_or}
 use lib.Pow.{shl_exact}
@@ -51,12 +50,12 @@ loop-q-preserved c =
       omega arith,
       ap (λ (y : ℕ). y + a.n2) x.invariant.1 ∙ next_at_lem x.q a.n2,
       (elim c.if-a-q-eq1.branch [
-      then-a-q-eq1 w ↦ w.out-is
-          ∙ ap (λ (y : ℕ). bit_or x.out y) (shl ∙ ap (λ (y : ℕ). a.b * 2 ^ y) x.invariant.1)
-          ∙ ap (λ (y : ℕ). bit_or y (f x.q)) x.invariant.2
-          ∙ union_step f a.a x.q w.if-a-q-eq1.true
-      | else-a-q-eq1 w ↦ w.out-is ∙ x.invariant.2 ∙ union_skip f a.a x.q w.if-a-q-eq1.false
-    ]),
+        | then-a-q-eq1 w ↦ w.out-is
+            ∙ ap (λ (y : ℕ). bit_or x.out y) (shl ∙ ap (λ (y : ℕ). a.b * 2 ^ y) x.invariant.1)
+            ∙ ap (λ (y : ℕ). bit_or y (f x.q)) x.invariant.2
+            ∙ union_step f a.a x.q w.if-a-q-eq1.true
+        | else-a-q-eq1 w ↦ w.out-is ∙ x.invariant.2 ∙ union_skip f a.a x.q w.if-a-q-eq1.false
+      ]),
     )
 
 pub returns : goal.returns

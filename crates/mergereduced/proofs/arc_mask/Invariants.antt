@@ -1,14 +1,7 @@
 -- `arc_mask` meets its contract. The loop's invariant: `out` has the places below p. Assumes
 -- nothing.
-use mathlib.Core.Path.{◌≡◌, refl, sym, ap, ◌∙◌}
-use mathlib.Core.Bool.{Bool}
-use Prim.Native.Nat.{ℕ, ◌-◌, ◌≤◌}
-use native.Mathlib.Omega.{arith}
-use borrow.Author.Rules.{rules}
-use lib.Bits.{bit_or}
-use lib.ListN.{get_or}
-use Rattle.masks.specs.Masks.{has, mask_of}
-use Rattle.masks.proofs.Passing.{mask_add, mask_skip}
+use mathlib.Core.Path.{◌≡◌}
+use Prim.Native.Nat.{◌-◌, ◌≤◌}
 use Rattle.merging.specs.Merged.{targets_of}
 use Rattle.mergereduced.specs.mirror.Asked.{places_in}
 use Rattle.mergereduced.proofs.arc_mask.Given as goal

@@ -2,7 +2,6 @@
 use mathlib.Core.Path.{ap₂, ◌∙◌}
 use Rattle.masks.specs.Masks.{shares}
 use Rattle.mergereduced.proofs.Ways.{left_low, right_low}
-use borrow.Author.Rules.{rules}
 use Rattle.mergereduced.proofs.both_link.Goals as goal
 
 pub symbols_at-a-requires : goal.symbols_at-a-requires

@@ -4,7 +4,6 @@ use mathlib.Core.Path.{ap₂, ◌∙◌}
 use Prim.Native.Nat.{ℕ}
 use Rattle.masks.specs.Masks.{has}
 use Rattle.merging.specs.Merged.{pairs}
-use borrow.Author.Rules.{rules}
 use Rattle.mergereduced.proofs.both_move.Goals as goal
 
 pub mask_at-a-requires : goal.mask_at-a-requires

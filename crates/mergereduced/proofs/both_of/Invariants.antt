@@ -1,13 +1,9 @@
 -- `both_of` meets its contract: the cells below q are done. Assumes nothing.
-use mathlib.Core.Path.{◌≡◌, ◌∙◌}
+use mathlib.Core.Path.{◌≡◌}
 use Prim.Native.Nat.{ℕ, ◌-◌, ◌<◌, ◌≤◌}
-use native.Mathlib.Omega.{arith}
-use lib.ListN.{length, get_or, length-set, length-replicate}
-use Rattle.base.proofs.Lists.{cell_stored}
+use lib.ListN.{length, get_or}
 use Rattle.masks.specs.Masks.{bit}
-use Rattle.mergereduced.proofs.Cells.{set_few, set_made}
 use lib.Bits.{bit_and}
-use Rattle.masks.proofs.Laws.{and_members}
 use Rattle.mergereduced.specs.mirror.Asked.{set_in}
 use Rattle.mergereduced.proofs.both_of.Given as goal
 

@@ -3,7 +3,6 @@ use native.Mathlib.Omega.{arith}
 use Prim.Native.Nat.{◌/◌}
 use Rattle.merging.specs.Merged.{targets_of}
 use Rattle.mergereduced.proofs.Ways.{cell_state, cell_none}
-use borrow.Author.Rules.{rules}
 use Rattle.mergereduced.proofs.cell_of.Goals as goal
 
 pub arc_mask-requires : goal.arc_mask-requires

@@ -2,10 +2,9 @@
 -- whose links are added, which grow by one each time round. Assumes nothing.
 use mathlib.Core.Path.{◌≡◌, sym, ap, ◌∙◌, subst}
 use mathlib.Core.Bool.{Bool}
-use Prim.Native.Nat.{ℕ, ◌-◌, ◌<◌}
+use Prim.Native.Nat.{ℕ, ◌<◌}
 use native.Mathlib.Omega.{arith}
-use lib.ListN.{length, set, length-set, length-replicate}
-use Rattle.masks.specs.Turns.{rank}
+use lib.ListN.{set, length-set, length-replicate}
 use Rattle.delegates.specs.mirror.Classes.{first_from}
 use Rattle.merging.specs.Merged.{states_of}
 use Rattle.mergereduced.specs.mirror.Asked.{set_in, link_in, link_by, fresh_in}

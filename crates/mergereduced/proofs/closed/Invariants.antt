@@ -1,17 +1,13 @@
 -- `closed` meets its contract. The loop keeps what proofs/Closure.antt says of the set and of those
 -- whose links are added, which grow by one each time round. Assumes nothing.
-use mathlib.Core.Path.{◌≡◌, sym, ap, ◌∙◌, subst}
-use mathlib.Core.Bool.{Bool}
-use Prim.Native.Nat.{ℕ, ◌-◌, ◌<◌}
-use native.Mathlib.Omega.{arith}
-use lib.ListN.{length, set, length-set, length-replicate}
+use mathlib.Core.Path.{◌≡◌}
+use Prim.Native.Nat.{◌-◌}
+use lib.ListN.{length, set}
 use Rattle.masks.specs.Turns.{rank}
 use Rattle.delegates.specs.mirror.Classes.{first_from}
 use Rattle.merging.specs.Merged.{states_of}
 use Rattle.mergereduced.specs.mirror.Asked.{set_in, link_in, link_by, fresh_in}
-use Rattle.mergereduced.proofs.Cells.{set_added, set_empty}
-use Rattle.mergereduced.proofs.Ways.{both_small, states_most}
-use Rattle.mergereduced.proofs.Closure.{Kept, kept_first, kept_more, fresh_there, fresh_none, done_less}
+use Rattle.mergereduced.proofs.Closure.{Kept}
 use Rattle.mergereduced.proofs.closed.Given as goal
 
 abbrev pub invariant-loop-q : goal.invariant-loop-q

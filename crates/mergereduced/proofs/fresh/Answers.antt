@@ -1,8 +1,7 @@
 -- `fresh` meets its contract: no number passed is in the set and not done. Assumes nothing.
 use mathlib.Core.Path.{◌≡◌, sym, ap, ◌∙◌}
-use Prim.Native.Nat.{◌-◌, ◌≤◌, ◌<◌}
+use Prim.Native.Nat.{◌-◌, ◌<◌}
 use native.Mathlib.Omega.{arith}
-use borrow.Author.Rules.{rules}
 use Rattle.delegates.specs.mirror.Classes.{first_from}
 use Rattle.delegates.proofs.Tests.{first_here, first_past, first_end}
 use Rattle.mergereduced.specs.mirror.Asked.{set_in, fresh_in}

@@ -2,7 +2,6 @@
 use mathlib.Core.Path.{sym, ◌∙◌}
 use native.Mathlib.Omega.{arith}
 use Rattle.mergereduced.proofs.Ways.{left_low, right_low, pairs_yes, pairs_no}
-use borrow.Author.Rules.{rules}
 use Rattle.mergereduced.proofs.in_pairs.Goals as goal
 
 pub overflow_cast-x : goal.overflow_cast-x

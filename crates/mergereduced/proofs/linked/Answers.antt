@@ -1,7 +1,6 @@
 -- `linked` meets its contract. Assumes nothing.
 use Rattle.mergereduced.specs.mirror.Asked.{link_in}
 use Rattle.mergereduced.proofs.Ways.{link_forth, link_back}
-use borrow.Author.Rules.{rules}
 use Rattle.mergereduced.proofs.linked.Goals as goal
 
 pub returns-then-forth : goal.returns-then-forth

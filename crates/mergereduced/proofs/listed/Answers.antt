@@ -1,9 +1,8 @@
 -- `listed` meets its contract: the places below p are filled. Assumes nothing.
 use mathlib.Core.Path.{◌≡◌, ◌∙◌}
-use Prim.Native.Nat.{ℕ, ◌-◌, ◌<◌, ◌≤◌}
+use Prim.Native.Nat.{ℕ, ◌<◌}
 use native.Mathlib.Omega.{arith}
-use lib.ListN.{length, get_or, length-set, length-replicate}
-use borrow.Author.Rules.{rules}
+use lib.ListN.{length, length-set, length-replicate}
 use Rattle.base.proofs.Lists.{is_list_from, cell_stored}
 use Rattle.mergereduce.specs.Trimmed.{nth}
 use Rattle.mergereduced.specs.mirror.Asked.{set_in}

@@ -1,6 +1,5 @@
 -- `own_moves` meets its contract. Assumes nothing.
 use Rattle.mergereduced.proofs.Ways.{read_first, read_second, own_first, own_second}
-use borrow.Author.Rules.{rules}
 use Rattle.mergereduced.proofs.own_moves.Goals as goal
 
 pub in_beside-requires : goal.in_beside-requires

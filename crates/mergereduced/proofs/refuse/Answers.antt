@@ -2,7 +2,6 @@
 use mathlib.Core.Path.{ap}
 use mathlib.Core.Option.{some}
 use Rattle.automaton.specs.declared.Rule.{Rule}
-use borrow.Author.Rules.{rules}
 use Rattle.mergereduced.proofs.refuse.Goals as goal
 
 pub returns : goal.returns

@@ -3,7 +3,6 @@ use Rattle.mergereduced.proofs.Ways.{bit_yes, bit_no, start-past}
 use mathlib.Core.Path.{sym, ◌∙◌}
 use native.Mathlib.Omega.{arith}
 use Rattle.merging.specs.Merged.{set_of}
-use borrow.Author.Rules.{rules}
 use Rattle.mergereduced.proofs.start_cell.Goals as goal
 
 pub returns-then-in_set : goal.returns-then-in_set

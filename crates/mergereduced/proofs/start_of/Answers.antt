@@ -1,8 +1,8 @@
 -- `start_of` meets its contract: the cells below q are done. Assumes nothing.
 use mathlib.Core.Path.{◌≡◌, ◌∙◌}
-use Prim.Native.Nat.{ℕ, ◌-◌, ◌<◌, ◌≤◌}
+use Prim.Native.Nat.{ℕ, ◌<◌}
 use native.Mathlib.Omega.{arith}
-use lib.ListN.{length, get_or, length-set, length-replicate}
+use lib.ListN.{length, length-set, length-replicate}
 use Rattle.base.proofs.Lists.{cell_stored}
 use Rattle.masks.specs.Masks.{bit}
 use Rattle.mergereduced.proofs.Cells.{set_made}

@@ -1,13 +1,9 @@
 -- `start_of` meets its contract: the cells below q are done. Assumes nothing.
-use mathlib.Core.Path.{◌≡◌, ◌∙◌}
+use mathlib.Core.Path.{◌≡◌}
 use Prim.Native.Nat.{ℕ, ◌-◌, ◌<◌, ◌≤◌}
-use native.Mathlib.Omega.{arith}
-use lib.ListN.{length, get_or, length-set, length-replicate}
-use Rattle.base.proofs.Lists.{cell_stored}
+use lib.ListN.{length, get_or}
 use Rattle.masks.specs.Masks.{bit}
-use Rattle.mergereduced.proofs.Cells.{set_made}
 use Rattle.merging.specs.Merged.{set_of}
-use Rattle.mergereduced.proofs.Ways.{states_most, set_small}
 use Rattle.mergereduced.proofs.start_of.Given as goal
 
 abbrev pub invariant-loop-q : goal.invariant-loop-q

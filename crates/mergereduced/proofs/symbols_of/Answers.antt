@@ -1,9 +1,8 @@
 -- `symbols_of` meets its contract: the cells below `cell` are filled. Assumes nothing.
 use mathlib.Core.Path.{◌≡◌, ◌∙◌}
-use Prim.Native.Nat.{ℕ, ◌-◌, ◌/◌, ◌%◌, ◌<◌, ◌≤◌}
+use Prim.Native.Nat.{ℕ, ◌/◌, ◌%◌, ◌<◌}
 use native.Mathlib.Omega.{arith}
-use lib.ListN.{length, get_or, length-set, length-replicate}
-use borrow.Author.Rules.{rules}
+use lib.ListN.{length, length-set, length-replicate}
 use Rattle.base.proofs.Lists.{is_list_from, cell_stored}
 use Rattle.mergereduced.specs.mirror.Asked.{symbols_to}
 use Rattle.mergereduced.proofs.symbols_of.Goals as goal

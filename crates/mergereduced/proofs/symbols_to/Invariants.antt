@@ -1,13 +1,8 @@
 -- `symbols_to` meets its contract. The loop's invariant: `out` has the symbols passed. Assumes
 -- nothing.
-use mathlib.Core.Path.{◌≡◌, refl, sym, ap, ◌∙◌}
-use mathlib.Core.Logic.{⊎_elim}
-use Prim.Native.Nat.{ℕ, ◌-◌, ◌≤◌}
-use native.Mathlib.Omega.{arith}
-use borrow.Author.Rules.{rules}
-use lib.Bits.{bit_or}
+use mathlib.Core.Path.{◌≡◌}
+use Prim.Native.Nat.{◌-◌, ◌≤◌}
 use Rattle.masks.specs.Masks.{has, mask_of}
-use Rattle.masks.proofs.Passing.{mask_add, mask_skip}
 use Rattle.automaton.specs.Rules.{target_mask}
 use Rattle.mergereduced.proofs.symbols_to.Given as goal
 

@@ -1,10 +1,7 @@
 -- `table_of` meets its contract: the cells below `cell` are those of the result. Assumes nothing.
-use mathlib.Core.Path.{◌≡◌, ◌∙◌}
+use mathlib.Core.Path.{◌≡◌}
 use Prim.Native.Nat.{ℕ, ◌-◌, ◌<◌, ◌≤◌}
-use native.Mathlib.Omega.{arith}
-use lib.ListN.{length, get_or, length-set, length-replicate}
-use borrow.Author.Rules.{rules}
-use Rattle.base.proofs.Lists.{is_list_from, cell_stored}
+use lib.ListN.{length, get_or}
 use Rattle.merging.specs.Merged.{targets_of}
 use Rattle.mergereduced.specs.mirror.Asked.{cell_in}
 use Rattle.mergereduced.proofs.table_of.Given as goal

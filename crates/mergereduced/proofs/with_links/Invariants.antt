@@ -1,18 +1,12 @@
 -- `with_links` meets its contract. The loop's invariant: the numbers below p that q is linked to
 -- are in `out`, with the set. Assumes nothing.
-use mathlib.Core.Path.{◌≡◌, sym, ap, ◌∙◌}
-use mathlib.Core.Bool.{Bool}
-use Prim.Native.Nat.{ℕ, ◌-◌, ◌<◌, ◌≤◌}
-use native.Mathlib.Omega.{arith}
-use borrow.Author.Rules.{rules}
-use lib.Bits.{bit_or, or_zero_r}
-use lib.ListN.{length, length-set}
+use mathlib.Core.Path.{◌≡◌}
+use Prim.Native.Nat.{◌-◌, ◌≤◌}
+use lib.Bits.{bit_or}
+use lib.ListN.{length}
 use Rattle.masks.specs.Masks.{mask_of}
 use Rattle.merging.specs.Merged.{states_of}
 use Rattle.mergereduced.specs.mirror.Asked.{set_in, link_in, link_by}
-use Rattle.mergereduced.proofs.Cells.{cell_in, set_added}
-use Rattle.mergereduced.proofs.Ways.{both_small, states_most}
-use Rattle.mergereduced.proofs.Closure.{links_add, links_skip, links_known}
 use Rattle.mergereduced.proofs.with_links.Given as goal
 
 abbrev pub invariant-loop-p : goal.invariant-loop-p

@@ -1,23 +1,23 @@
 -- Sets of pairs as the code has them, and what its functions ask of each other; `merge_reduced`
 -- itself asks nothing.
 --
---   mostPairs                  the most pairs of a state of each rule
---   setIn l                    the set of the numbers whose cell of the list l is 1
---   symbolsTo ts x y           the symbols by which the table ts has an arc from x to y
---   symbolsOf ts               the list of these for every two states
---   symbolsAt m x y            what such a list m has for x and y
+--   most_pairs                 the most pairs of a state of each rule
+--   set_in l                   the set of the numbers whose cell of the list l is 1
+--   symbols_to ts x y          the symbols by which the table ts has an arc from x to y
+--   symbols_of ts              the list of these for every two states
+--   symbols_at m x y           what such a list m has for x and y
 --   link_in way .. q p          the test that the result has an arc from q to p, from the two lists
---   linkBy forth link q p      a link from q to p, or from p to q
---   freshIn m done q           the test that q is in m and not yet done
+--   link_by forth link q p     a link from q to p, or from p to q
+--   fresh_in m done q          the test that q is in m and not yet done
 --   Sized n1 n2                two numbers of states, of at least one state each
 --   Tabled n1 n2 ts us         such numbers, and the tables of two such rules
 --   ArcAsked way .. q s p      two states of the result, and a symbol
---   pairArcs way .. q p        the test that the result has an arc from q to p
+--   pair_arcs way .. q p       the test that the result has an arc from q to p
 --   Few way n1 n2 m n c        n states of the result, of which the c in the set m stay
 --   Listed way n1 n2 list c    c states of the result
---   placesIn list c m          the places among the first c of the list where a member of m stands
---   cellIn ts list c cell      a cell of the table of the states that stay
---   pairedOf way one two       what is answered of two rules that pass their checks and have the
+--   places_in list c m         the places among the first c of the list where a member of m stands
+--   cell_in ts list c cell     a cell of the table of the states that stay
+--   paired_of way one two      what is answered of two rules that pass their checks and have the
 --                              same symbols
 use Rattle.std.specs.Prelude.{Bool, true, false, cond, not, ◌&&◌, ◌||◌, List, ◌≡◌, ℕ, ◌+◌, ◌-◌, ◌*◌, ◌/◌, ◌%◌, ◌<◌, ◌≤◌, eqb, ltb, get_or}
 use Rattle.std.proofs.Math.Option.{none, some}

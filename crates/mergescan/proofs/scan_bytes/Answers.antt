@@ -1,10 +1,6 @@
 -- `scan_bytes` meets its contract. Assumes nothing.
-use Rattle.mergescan.specs.Scanning.{scanned, scan_all}
 use Rattle.mergescan.proofs.Kept.{all_on, all_over}
-use lib.ListN.{length, drop}
-use Prim.Native.Nat.{◌-◌}
-use mathlib.Core.Path.{◌≡◌, refl, ◌∙◌}
-use borrow.Author.Rules.{rules}
+use mathlib.Core.Path.{refl, ◌∙◌}
 use Rattle.mergescan.proofs.scan_bytes.Goals as goal
 
 pub loop-i-init : goal.loop-i-init

@@ -1,10 +1,8 @@
 -- `scan_bytes` meets its contract. Assumes nothing.
 use Rattle.mergescan.specs.Scanning.{scanned, scan_all}
-use Rattle.mergescan.proofs.Kept.{all_on, all_over}
 use lib.ListN.{length, drop}
 use Prim.Native.Nat.{◌-◌}
-use mathlib.Core.Path.{◌≡◌, refl, ◌∙◌}
-use borrow.Author.Rules.{rules}
+use mathlib.Core.Path.{◌≡◌}
 use Rattle.mergescan.proofs.scan_bytes.Given as goal
 
 abbrev pub invariant-loop-i : goal.invariant-loop-i

@@ -5,14 +5,11 @@
 -- (`part_on`), one that ends is answered (`part_answered`). The loop ends where the block is used up
 -- or the room is short.
 use Rattle.linetexts.proofs.Turns.{part_forward, part_on, part_answered, not_ended, has_ended}
-use Rattle.linetexts.proofs.Gathering.{SoFar, begun, ended, at_over, gather_short}
+use Rattle.linetexts.proofs.Gathering.{begun, ended, at_over, gather_short}
 use Rattle.mergescan.specs.Scanning.{scan_all}
-use Rattle.mergestream.specs.Texts.{merge_lines, merge_state}
-use lib.ListN.{length}
-use Prim.Native.Nat.{◌-◌}
+use Rattle.mergestream.specs.Texts.{merge_lines}
 use native.Mathlib.Omega.{arith}
-use mathlib.Core.Path.{◌≡◌, refl, sym, ap, ◌∙◌}
-use borrow.Author.Rules.{rules}
+use mathlib.Core.Path.{refl, sym, ap, ◌∙◌}
 use Rattle.mergestream.proofs.gather.Goals as goal
 
 pub loop-at-init : goal.loop-at-init

@@ -6,8 +6,8 @@
 --   limited l         how many the keys l are; none where there are more than 512
 --   turn_of skips l m  the turn of the key m after the keys l: its number and how many keys there
 --                     are then; none where it is the 513th
---   foundIn l m       the number of the key m among the keys l, or none
---   keyCells l        the keys l as an array, the first 512 where there are more
+--   found_in l m      the number of the key m among the keys l, or none
+--   key_cells l       the keys l as an array, the first 512 where there are more
 --   Entered           the key m had its turn
 --   Cleared           nothing is numbered
 --   Stepped           key i was expanded by the symbol s
@@ -15,7 +15,7 @@
 --   Grown             the numbered keys became f, and all of them are expanded
 --   Stopped           the 513th key turned up, after the keys l, by the symbol s of key i
 --   Expanded          all keys were expanded, or it stopped there
---   grownBy a l m     the keys l, with the key m numbered and the keys from there on expanded
+--   grown_by a l m    the keys l, with the key m numbered and the keys from there on expanded
 --   Added             these are numbered, or the 513th key turned up
 --   InRow             what a key leads to is left out or goes to a cell of the key's own row
 use Rattle.std.specs.Prelude.{◌≡◌, Bool, false, cond, ◌&&◌, ◌||◌, List, [], ℕ, ◌+◌, ◌*◌, ◌/◌, ◌%◌, ◌≤◌, ◌<◌, min, ltb, length, get_or, set}

@@ -1,10 +1,9 @@
 -- `unpack` meets its contract. The loop's invariant: the cells passed are the words at their places.
 -- Assumes nothing.
 use mathlib.Core.Path.{◌≡◌, refl, ◌∙◌}
-use Prim.Native.Nat.{ℕ, ◌+◌, ◌-◌, ◌*◌, ◌≤◌, ◌<◌}
+use Prim.Native.Nat.{◌+◌, ◌*◌}
 use native.Mathlib.Omega.{arith}
-use borrow.Author.Rules.{rules}
-use lib.ListN.{length, get_or, length-set}
+use lib.ListN.{length-set}
 use Rattle.base.proofs.Lists.{is_list_from, cell_stored}
 use Rattle.ruleformat.specs.Format.{byte_at, word_at}
 use Rattle.packed.proofs.unpack.Goals as goal

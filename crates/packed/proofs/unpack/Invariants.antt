@@ -1,12 +1,9 @@
 -- `unpack` meets its contract. The loop's invariant: the cells passed are the words at their places.
 -- Assumes nothing.
-use mathlib.Core.Path.{◌≡◌, refl, ◌∙◌}
+use mathlib.Core.Path.{◌≡◌}
 use Prim.Native.Nat.{ℕ, ◌+◌, ◌-◌, ◌*◌, ◌≤◌, ◌<◌}
-use native.Mathlib.Omega.{arith}
-use borrow.Author.Rules.{rules}
-use lib.ListN.{length, get_or, length-set}
-use Rattle.base.proofs.Lists.{is_list_from, cell_stored}
-use Rattle.ruleformat.specs.Format.{byte_at, word_at}
+use lib.ListN.{length, get_or}
+use Rattle.ruleformat.specs.Format.{word_at}
 use Rattle.packed.proofs.unpack.Given as goal
 
 abbrev pub invariant-loop-cell : goal.invariant-loop-cell

@@ -1,10 +1,8 @@
 -- `write_pattern` meets its contract. Assumes nothing.
 use Rattle.patternfile.proofs.Ways.{on_30, on_31, on_32, none_on, read, passes, room, written}
 use Rattle.text.proofs.Rooms.{made}
-use borrow.Author.Tests.{not-true, not-false}
 use lib.ListN.{length-replicate}
 use mathlib.Core.Path.{sym, ◌∙◌}
-use borrow.Author.Rules.{rules}
 use Rattle.patternfile.proofs.write_pattern.Goals as goal
 
 pub returns-then-pattern-gt-PATTERN : goal.returns-then-pattern-gt-PATTERN

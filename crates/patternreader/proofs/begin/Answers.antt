@@ -1,5 +1,4 @@
 -- `begin` meets its contract. Assumes nothing.
-use borrow.Author.Rules.{rules}
 use Rattle.patternreader.proofs.begin.Goals as goal
 
 pub returns : goal.returns

@@ -1,5 +1,4 @@
 -- `commit` meets its contract. Assumes nothing.
-use borrow.Author.Rules.{rules}
 use Rattle.patternreader.proofs.commit.Goals as goal
 
 pub returns : goal.returns

@@ -1,10 +1,9 @@
 -- `fill_targets` meets its contract: the cells before c are stored. Assumes nothing.
-use mathlib.Core.Path.{◌≡◌, refl, ◌∙◌}
-use Prim.Native.Nat.{ℕ, ◌/◌, ◌%◌, ◌-◌, ◌≤◌, ◌<◌}
+use mathlib.Core.Path.{refl, ◌∙◌}
+use Prim.Native.Nat.{◌/◌, ◌%◌}
 use native.Mathlib.Omega.{arith}
-use lib.ListN.{length, get_or, length-set}
+use lib.ListN.{get_or, length-set}
 use lib.Bits.{bit_and}
-use borrow.Author.Rules.{rules}
 use Rattle.base.proofs.Lists.{cell_stored, is_list_from}
 use Rattle.patternreader.proofs.fill_targets.Goals as goal
 

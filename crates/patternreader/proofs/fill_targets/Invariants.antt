@@ -1,11 +1,8 @@
 -- `fill_targets` meets its contract: the cells before c are stored. Assumes nothing.
-use mathlib.Core.Path.{◌≡◌, refl, ◌∙◌}
+use mathlib.Core.Path.{◌≡◌}
 use Prim.Native.Nat.{ℕ, ◌/◌, ◌%◌, ◌-◌, ◌≤◌, ◌<◌}
-use native.Mathlib.Omega.{arith}
-use lib.ListN.{length, get_or, length-set}
+use lib.ListN.{length, get_or}
 use lib.Bits.{bit_and}
-use borrow.Author.Rules.{rules}
-use Rattle.base.proofs.Lists.{cell_stored, is_list_from}
 use Rattle.patternreader.proofs.fill_targets.Given as goal
 
 abbrev pub invariant-loop-c : goal.invariant-loop-c

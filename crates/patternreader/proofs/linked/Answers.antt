@@ -1,11 +1,10 @@
 -- `linked` meets its contract: the masks of the positions before i are stored. Assumes nothing.
 use mathlib.Core.Path.{◌≡◌, refl, ap, ◌∙◌}
 use mathlib.Core.Bool.{Bool, cond}
-use Prim.Native.Nat.{ℕ, ◌-◌, ◌≤◌, ◌<◌}
+use Prim.Native.Nat.{ℕ}
 use native.Mathlib.Omega.{arith}
-use lib.ListN.{length, get_or, length-set}
+use lib.ListN.{get_or, length-set}
 use lib.Bits.{bit_or}
-use borrow.Author.Rules.{rules}
 use Rattle.masks.specs.Masks.{has}
 use Rattle.base.proofs.Lists.{cell_stored, is_list_from}
 use Rattle.patternreader.proofs.linked.Goals as goal

@@ -1,13 +1,10 @@
 -- `linked` meets its contract: the masks of the positions before i are stored. Assumes nothing.
-use mathlib.Core.Path.{◌≡◌, refl, ap, ◌∙◌}
-use mathlib.Core.Bool.{Bool, cond}
+use mathlib.Core.Path.{◌≡◌}
+use mathlib.Core.Bool.{cond}
 use Prim.Native.Nat.{ℕ, ◌-◌, ◌≤◌, ◌<◌}
-use native.Mathlib.Omega.{arith}
-use lib.ListN.{length, get_or, length-set}
+use lib.ListN.{length, get_or}
 use lib.Bits.{bit_or}
-use borrow.Author.Rules.{rules}
 use Rattle.masks.specs.Masks.{has}
-use Rattle.base.proofs.Lists.{cell_stored, is_list_from}
 use Rattle.patternreader.proofs.linked.Given as goal
 
 abbrev pub invariant-loop-i : goal.invariant-loop-i

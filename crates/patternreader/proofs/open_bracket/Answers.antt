@@ -1,5 +1,4 @@
 -- `open_bracket` meets its contract. Assumes nothing.
-use borrow.Author.Rules.{rules}
 use Rattle.patternreader.proofs.open_bracket.Goals as goal
 
 pub returns : goal.returns

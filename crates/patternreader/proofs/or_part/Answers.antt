@@ -1,5 +1,4 @@
 -- `or_part` meets its contract. Assumes nothing.
-use borrow.Author.Rules.{rules}
 use Rattle.patternreader.proofs.or_part.Goals as goal
 
 pub returns : goal.returns

@@ -1,12 +1,10 @@
 -- `read_all` meets its contract: what is read, with the bytes from i on, gives the whole. Assumes
 -- nothing.
-use mathlib.Core.Path.{◌≡◌, ap}
-use Prim.Native.Nat.{◌-◌, ◌≤◌}
+use mathlib.Core.Path.{ap}
 use native.Mathlib.Omega.{arith}
-use lib.ListN.{length, drop}
 use borrow.Author.Rules.{rules}
 use Rattle.patternreader.specs.declared.Reading.{Reading}
-use Rattle.patternreader.specs.Reader.{after_bytes, beginning}
+use Rattle.patternreader.specs.Reader.{after_bytes}
 use Rattle.patternreader.proofs.Loops.{read_more, read_end}
 use Rattle.patternreader.proofs.read_all.Goals as goal
 

@@ -1,5 +1,4 @@
 -- `read_bar` meets its contract. Assumes nothing.
-use borrow.Author.Rules.{rules}
 use Rattle.patternreader.proofs.read_bar.Goals as goal
 
 pub returns : goal.returns

@@ -1,5 +1,4 @@
 -- `read_letter` meets its contract. Assumes nothing.
-use borrow.Author.Rules.{rules}
 use Rattle.patternreader.proofs.read_letter.Goals as goal
 
 pub returns : goal.returns

@@ -3,7 +3,6 @@ use Rattle.patternreader.specs.Rules.{rule_from}
 use Rattle.patternreader.specs.Reader.{commit_of, bar_of}
 use Rattle.patternreader.specs.declared.Reading.{Reading}
 use mathlib.Core.Path.{ap, ◌∙◌}
-use borrow.Author.Rules.{rules}
 use Rattle.patternreader.proofs.read_rule.Goals as goal
 
 pub returns : goal.returns

@@ -1,5 +1,4 @@
 -- `read_star` meets its contract. Assumes nothing.
-use borrow.Author.Rules.{rules}
 use Rattle.patternreader.proofs.read_star.Goals as goal
 
 pub returns : goal.returns

@@ -1,5 +1,4 @@
 -- `rule_from` meets its contract. Assumes nothing.
-use borrow.Author.Rules.{rules}
 use Rattle.patternreader.proofs.rule_from.Goals as goal
 
 pub returns : goal.returns

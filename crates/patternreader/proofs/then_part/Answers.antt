@@ -1,5 +1,4 @@
 -- `then_part` meets its contract. Assumes nothing.
-use borrow.Author.Rules.{rules}
 use Rattle.patternreader.proofs.then_part.Goals as goal
 
 pub returns : goal.returns

@@ -1,11 +1,7 @@
 -- `count_letters` meets its contract: the letters counted, with those from i on, are all. Assumes
 -- nothing.
-use mathlib.Core.Path.{◌≡◌}
-use Prim.Native.Nat.{◌+◌, ◌-◌, ◌≤◌}
 use native.Mathlib.Omega.{arith}
-use lib.ListN.{length, drop}
 use borrow.Author.Rules.{rules}
-use Rattle.patternscan.specs.Signs.{letters_in}
 use Rattle.patternscan.proofs.Loops.{count_more, count_end}
 use Rattle.patternscan.proofs.count_letters.Goals as goal
 

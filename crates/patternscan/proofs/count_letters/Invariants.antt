@@ -2,11 +2,8 @@
 -- nothing.
 use mathlib.Core.Path.{◌≡◌}
 use Prim.Native.Nat.{◌+◌, ◌-◌, ◌≤◌}
-use native.Mathlib.Omega.{arith}
 use lib.ListN.{length, drop}
-use borrow.Author.Rules.{rules}
 use Rattle.patternscan.specs.Signs.{letters_in}
-use Rattle.patternscan.proofs.Loops.{count_more, count_end}
 use Rattle.patternscan.proofs.count_letters.Given as goal
 
 abbrev pub invariant-loop-i : goal.invariant-loop-i

@@ -1,12 +1,8 @@
 -- `grammatical` meets its contract: the test of the bytes from i on is the test of all. Assumes
 -- nothing.
-use mathlib.Core.Path.{◌≡◌, refl}
-use Prim.Native.Nat.{◌-◌, ◌≤◌}
+use mathlib.Core.Path.{refl}
 use native.Mathlib.Omega.{arith}
-use lib.ListN.{length, drop}
 use borrow.Author.Rules.{rules}
-use Rattle.patternscan.specs.declared.Scan.TheVariants.{Within}
-use Rattle.patternscan.specs.Scanning.{scan, whole, grammatical as grammaticalOf}
 use Rattle.patternscan.proofs.Loops.{scan_more, scan_never, scan-end, deeper}
 use Rattle.patternscan.proofs.grammatical.Goals as goal
 

@@ -1,13 +1,10 @@
 -- `grammatical` meets its contract: the test of the bytes from i on is the test of all. Assumes
 -- nothing.
-use mathlib.Core.Path.{◌≡◌, refl}
+use mathlib.Core.Path.{◌≡◌}
 use Prim.Native.Nat.{◌-◌, ◌≤◌}
-use native.Mathlib.Omega.{arith}
 use lib.ListN.{length, drop}
-use borrow.Author.Rules.{rules}
 use Rattle.patternscan.specs.declared.Scan.TheVariants.{Within}
 use Rattle.patternscan.specs.Scanning.{scan, whole, grammatical as grammaticalOf}
-use Rattle.patternscan.proofs.Loops.{scan_more, scan_never, scan-end, deeper}
 use Rattle.patternscan.proofs.grammatical.Given as goal
 
 abbrev pub invariant-loop-i : goal.invariant-loop-i

@@ -7,7 +7,6 @@ use lib.Seq.{length-take-le}
 use lib.ListN.{length, take}
 use native.Mathlib.Omega.{arith}
 use mathlib.Core.Path.{◌≡◌, sym}
-use borrow.Author.Rules.{rules}
 use Rattle.patterntext.proofs.put_answer.Goals as goal
 
 pub slice_bounds-file-end : goal.slice_bounds-file-end

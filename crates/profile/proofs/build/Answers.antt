@@ -1,6 +1,5 @@
 -- `build` meets its contract: each way out by its lemma. Assumes nothing.
 use mathlib.Core.Path.{sym, ap, ◌∙◌}
-use borrow.Author.Rules.{rules}
 use Rattle.base.specs.Answers.{answer_number}
 use Rattle.rulecheck.proofs.Claims as check
 use Rattle.profile.proofs.Ways.{build_unchecked, build_33}

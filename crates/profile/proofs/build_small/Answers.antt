@@ -5,7 +5,6 @@ use Prim.Native.Nat.{◌<◌}
 use native.Mathlib.Nat.{lt_of_lt_of_le}
 use native.Mathlib.Omega.{arith}
 use lib.Pow.{pow_mono}
-use borrow.Author.Rules.{rules}
 use Rattle.mappings.specs.Packing.{pack}
 use Rattle.keys.specs.declared.Kind.TheVariants.{Mappings}
 use Rattle.keys.specs.Tables.{table_of}

@@ -1,6 +1,5 @@
 -- `refuse_rule` meets its contract. Assumes nothing.
 use mathlib.Core.Path.{ap}
-use borrow.Author.Rules.{rules}
 use Rattle.profile.specs.declared.Profile.{Profile}
 use Rattle.profile.specs.Profiles.{refused}
 use Rattle.profile.proofs.refuse_rule.Goals as goal

@@ -1,6 +1,5 @@
 -- `run` meets its contract. Assumes nothing.
 use Rattle.profile.proofs.Ways.{lent_all}
-use borrow.Author.Rules.{rules}
 use Rattle.profile.proofs.run.Goals as goal
 
 pub returns : goal.returns

@@ -2,7 +2,6 @@
 use mathlib.Core.Path.{sym, ◌∙◌}
 use Rattle.marks.proofs.Claims as marks
 use Rattle.profile.proofs.Ways.{run_12}
-use borrow.Author.Rules.{rules}
 use Rattle.profile.proofs.run_lent.Goals as goal
 
 pub returns-then-chunk-gt-CHUNK : goal.returns-then-chunk-gt-CHUNK

@@ -6,7 +6,6 @@ use Prim.Native.Nat.{ℕ, ◌≤◌}
 use native.Mathlib.Omega.{arith}
 use lib.ListN.{length, length-replicate}
 use lib.Seq.{length-take-le}
-use borrow.Author.Rules.{rules}
 use Rattle.text.proofs.Fitting.{taken}
 use Rattle.text.proofs.Rooms.{whole_within}
 use Rattle.marks.specs.Marks.{text_of}

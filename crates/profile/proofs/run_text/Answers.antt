@@ -4,7 +4,6 @@ use mathlib.Core.List.{List}
 use mathlib.Core.Option.{none}
 use Prim.Native.Nat.{ℕ}
 use Rattle.profile.proofs.Ways.{lent_13, lent_whole}
-use borrow.Author.Rules.{rules}
 use Rattle.profile.proofs.run_text.Goals as goal
 
 pub returns-then-has_foreign : goal.returns-then-has_foreign

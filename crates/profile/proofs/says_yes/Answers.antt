@@ -1,7 +1,6 @@
 -- `says_yes` meets its contract. Assumes nothing.
 use mathlib.Core.Path.{ap}
 use Prim.Native.Nat.{ℕ}
-use borrow.Author.Rules.{rules}
 use Rattle.masks.specs.Masks.{shares}
 use Rattle.profile.proofs.says_yes.Goals as goal
 

@@ -1,10 +1,9 @@
 -- `walk` meets its contract. The invariant: what is left of the text leads from the number so far to
 -- where the whole text leads from 0. Assumes nothing.
-use mathlib.Core.Path.{◌≡◌, refl, sym, ◌∙◌}
-use Prim.Native.Nat.{◌+◌, ◌*◌, ◌-◌, ◌%◌, ◌≤◌, ◌<◌}
+use mathlib.Core.Path.{refl, sym, ◌∙◌}
+use Prim.Native.Nat.{◌+◌, ◌*◌, ◌%◌}
 use native.Mathlib.Omega.{arith}
-use lib.ListN.{length, get_or, drop}
-use Rattle.profile.specs.Runs.{walk_to}
+use lib.ListN.{get_or}
 use Rattle.profile.proofs.Ways.{walk_more, walk_done}
 use Rattle.profile.proofs.walk.Goals as goal
 

@@ -1,5 +1,4 @@
 -- `build_file` meets its contract. Assumes nothing.
-use borrow.Author.Rules.{rules}
 use Rattle.profilefile.proofs.Ways.{unread, built}
 use Rattle.profilefile.proofs.build_file.Goals as goal
 

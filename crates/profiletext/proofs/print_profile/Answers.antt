@@ -1,5 +1,4 @@
 -- `print_profile` meets its contract. Assumes nothing.
-use borrow.Author.Rules.{rules}
 use Rattle.profiletext.proofs.Whole.{built_text_lem, refused_text_lem}
 use Rattle.profiletext.proofs.print_profile.Goals as goal
 

@@ -1,5 +1,4 @@
 -- `put_head` meets its contract. Assumes nothing.
-use borrow.Author.Rules.{rules}
 use Rattle.text.proofs.Rooms.{exact, most, left, fits, more, two}
 use Rattle.ruletext.proofs.Lengths.{number_most}
 use Rattle.profiletext.proofs.put_head.Goals as goal

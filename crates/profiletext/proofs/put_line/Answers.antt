@@ -5,7 +5,6 @@ use Prim.Native.Nat.{ℕ, ◌≤◌}
 use native.Mathlib.Nat.{le_refl}
 use native.Mathlib.Omega.{arith}
 use lib.ListN.{length, get_or}
-use borrow.Author.Rules.{rules}
 use Rattle.text.proofs.Rooms.{exact, most, left, fits, more, two}
 use Rattle.ruletext.proofs.Lengths.{index_most, cells_most, cells_room}
 use Rattle.mappings.specs.Packing.{unpack}

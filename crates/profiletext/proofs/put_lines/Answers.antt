@@ -1,12 +1,9 @@
 -- `put_lines` meets its contract. The loop's invariant: the lines of the first i mappings are written.
 -- Assumes nothing.
 use mathlib.Core.Path.{◌≡◌}
-use Prim.Native.Nat.{◌+◌, ◌*◌, ◌-◌, ◌≤◌}
 use native.Mathlib.Omega.{arith}
-use lib.ListN.{length}
-use Rattle.base.specs.Lists.{joined}
 use Rattle.profiletext.specs.ProfileText.{mapping_line}
-use Rattle.text.proofs.Fitting.{Put, put, none_put, one_more}
+use Rattle.text.proofs.Fitting.{put, none_put, one_more}
 use Rattle.profiletext.proofs.Lengths.{line_most, lines_most}
 use Rattle.profiletext.proofs.put_lines.Goals as goal
 

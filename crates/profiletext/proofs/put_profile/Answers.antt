@@ -1,5 +1,4 @@
 -- `put_profile` meets its contract. Assumes nothing.
-use borrow.Author.Rules.{rules}
 use Rattle.profiletext.proofs.Whole.{whole}
 use Rattle.profiletext.proofs.put_profile.Goals as goal
 

@@ -3,7 +3,6 @@ use mathlib.Core.List.{[], ◌∷◌}
 use native.Mathlib.Omega.{arith}
 use Rattle.answers.proofs.Lengths.{line_short}
 use Rattle.questions.specs.Answers.{after_word}
-use borrow.Author.Rules.{rules}
 use Rattle.questions.proofs.put_located.Goals as goal
 
 pub put_line-requires : goal.put_line-requires

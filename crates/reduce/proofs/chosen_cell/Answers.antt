@@ -1,6 +1,5 @@
 -- `chosen_cell` meets its contract. Assumes nothing.
 use mathlib.Core.Path.{refl, sym, ◌∙◌}
-use borrow.Author.Rules.{rules}
 use lib.ListN.{get_or}
 use Rattle.reduce.proofs.Ways.{cell_live, cell_dead, cell_off}
 use Rattle.reduce.proofs.chosen_cell.Goals as goal

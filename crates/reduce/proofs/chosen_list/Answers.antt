@@ -1,9 +1,8 @@
 -- `chosen_list` meets its contract: the cells below q are done. Assumes nothing.
 use mathlib.Core.Path.{◌≡◌, ◌∙◌}
-use Prim.Native.Nat.{ℕ, ◌-◌, ◌<◌, ◌≤◌}
+use Prim.Native.Nat.{ℕ, ◌<◌}
 use native.Mathlib.Omega.{arith}
-use borrow.Author.Rules.{rules}
-use lib.ListN.{length, get_or, length-set, length-replicate}
+use lib.ListN.{length, length-set, length-replicate}
 use Rattle.base.proofs.Lists.{is_list_from, cell_stored}
 use Rattle.reducing.specs.Reduced.{chosen_cell}
 use Rattle.reduce.proofs.chosen_list.Goals as goal

@@ -1,10 +1,7 @@
 -- `chosen_list` meets its contract: the cells below q are done. Assumes nothing.
-use mathlib.Core.Path.{◌≡◌, ◌∙◌}
+use mathlib.Core.Path.{◌≡◌}
 use Prim.Native.Nat.{ℕ, ◌-◌, ◌<◌, ◌≤◌}
-use native.Mathlib.Omega.{arith}
-use borrow.Author.Rules.{rules}
-use lib.ListN.{length, get_or, length-set, length-replicate}
-use Rattle.base.proofs.Lists.{is_list_from, cell_stored}
+use lib.ListN.{length, get_or}
 use Rattle.reducing.specs.Reduced.{chosen_cell}
 use Rattle.reduce.proofs.chosen_list.Given as goal
 

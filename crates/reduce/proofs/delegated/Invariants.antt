@@ -1,13 +1,9 @@
 -- `delegated` meets its contract. The loop's invariant: `out` is the union over the members below
 -- q. Assumes nothing.
-use mathlib.Core.Path.{◌≡◌, refl, sym, ap, ◌∙◌}
-use mathlib.Core.Logic.{⊎_elim}
-use Prim.Native.Nat.{ℕ, ◌-◌, ◌≤◌}
-use native.Mathlib.Omega.{arith}
-use borrow.Author.Rules.{rules}
+use mathlib.Core.Path.{◌≡◌}
+use Prim.Native.Nat.{◌-◌, ◌≤◌}
 use Rattle.masks.specs.Masks.{single, union}
 use Rattle.delegates.specs.Alike.{delegate_in, of_delegate}
-use Rattle.reduce.proofs.Ways.{more, skip}
 use Rattle.reduce.proofs.delegated.Given as goal
 
 abbrev pub invariant-loop-q : goal.invariant-loop-q

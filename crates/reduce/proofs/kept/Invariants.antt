@@ -1,11 +1,7 @@
 -- `kept` meets its contract. Where a round adds nothing, no later one does. Assumes nothing.
-use mathlib.Core.Path.{◌≡◌, sym, ap, ◌∙◌}
+use mathlib.Core.Path.{◌≡◌}
 use Prim.Native.Nat.{◌≤◌, ◌-◌}
-use native.Mathlib.Omega.{arith}
-use borrow.Author.Rules.{rules}
-use Rattle.masks.specs.Turns.{turns}
-use Rattle.masks.proofs.Turns.{turns_more, turns_whole}
-use Rattle.reducing.specs.Reduced.{delegated, onward, rounds}
+use Rattle.reducing.specs.Reduced.{delegated, rounds}
 use Rattle.reduce.proofs.kept.Given as goal
 
 abbrev pub invariant-loop-i : goal.invariant-loop-i

@@ -1,15 +1,12 @@
 -- `lowest` meets its contract. The loop's invariant: p is at most q, and the search from p on finds
 -- what the whole search does. Assumes nothing.
-use mathlib.Core.Path.{◌≡◌, sym, ap, ◌∙◌}
-use mathlib.Core.Bool.{Bool, ◌&&◌}
-use Prim.Native.Nat.{ℕ, ◌-◌, ◌≤◌}
-use native.Mathlib.Omega.{arith}
-use borrow.Author.Rules.{rules}
+use mathlib.Core.Path.{◌≡◌}
+use mathlib.Core.Bool.{◌&&◌}
+use Prim.Native.Nat.{◌-◌, ◌≤◌}
 use lib.Dec.{eqb}
 use lib.ListN.{get_or}
 use Rattle.masks.specs.Masks.{has}
 use Rattle.delegates.specs.mirror.Classes.{first_from}
-use Rattle.delegates.proofs.Tests.{first_here, first_past, first_end}
 use Rattle.reduce.proofs.lowest.Given as goal
 
 abbrev pub invariant-loop-p : goal.invariant-loop-p

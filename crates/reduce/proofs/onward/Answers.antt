@@ -1,10 +1,9 @@
 -- `onward` meets its contract. The loop's invariant: `found` is gathered from the symbols below s.
 -- Assumes nothing.
 use mathlib.Core.Path.{◌≡◌, refl, ap, ◌∙◌}
-use Prim.Native.Nat.{ℕ, ◌-◌, ◌≤◌}
+use Prim.Native.Nat.{ℕ}
 use native.Mathlib.Omega.{arith}
 use lib.Bits.{bit_or}
-use borrow.Author.Rules.{rules}
 use Rattle.automaton.specs.Successor.{successor}
 use Rattle.reducing.specs.Reduced.{gather, delegated}
 use Rattle.reduce.proofs.Ways.{gather_more}

@@ -1,13 +1,9 @@
 -- `onward` meets its contract. The loop's invariant: `found` is gathered from the symbols below s.
 -- Assumes nothing.
-use mathlib.Core.Path.{◌≡◌, refl, ap, ◌∙◌}
-use Prim.Native.Nat.{ℕ, ◌-◌, ◌≤◌}
-use native.Mathlib.Omega.{arith}
-use lib.Bits.{bit_or}
-use borrow.Author.Rules.{rules}
+use mathlib.Core.Path.{◌≡◌}
+use Prim.Native.Nat.{◌-◌, ◌≤◌}
 use Rattle.automaton.specs.Successor.{successor}
 use Rattle.reducing.specs.Reduced.{gather, delegated}
-use Rattle.reduce.proofs.Ways.{gather_more}
 use Rattle.reduce.proofs.onward.Given as goal
 
 abbrev pub invariant-loop-s : goal.invariant-loop-s

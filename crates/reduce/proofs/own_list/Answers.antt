@@ -1,8 +1,8 @@
 -- `own_list` meets its contract: each cell below q has its own number. Assumes nothing.
 use mathlib.Core.Path.{◌≡◌, refl, ◌∙◌}
-use Prim.Native.Nat.{ℕ, ◌-◌, ◌<◌, ◌≤◌}
+use Prim.Native.Nat.{ℕ, ◌<◌}
 use native.Mathlib.Omega.{arith}
-use lib.ListN.{length, get_or, length-set, length-replicate}
+use lib.ListN.{length, length-set, length-replicate}
 use Rattle.base.proofs.Lists.{is_list_from, cell_stored}
 use Rattle.reduce.proofs.own_list.Goals as goal
 

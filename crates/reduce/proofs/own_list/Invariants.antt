@@ -1,9 +1,7 @@
 -- `own_list` meets its contract: each cell below q has its own number. Assumes nothing.
-use mathlib.Core.Path.{◌≡◌, refl, ◌∙◌}
+use mathlib.Core.Path.{◌≡◌}
 use Prim.Native.Nat.{ℕ, ◌-◌, ◌<◌, ◌≤◌}
-use native.Mathlib.Omega.{arith}
-use lib.ListN.{length, get_or, length-set, length-replicate}
-use Rattle.base.proofs.Lists.{is_list_from, cell_stored}
+use lib.ListN.{length, get_or}
 use Rattle.reduce.proofs.own_list.Given as goal
 
 abbrev pub invariant-loop-q : goal.invariant-loop-q

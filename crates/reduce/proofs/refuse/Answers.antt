@@ -1,6 +1,5 @@
 -- `refuse` meets its contract. Assumes nothing.
 use mathlib.Core.Path.{ap}
-use borrow.Author.Rules.{rules}
 use mathlib.Core.Bool.{false}
 use mathlib.Core.Option.{some}
 use Rattle.automaton.specs.declared.Rule.{Rule}

@@ -1,14 +1,9 @@
 -- `renamed` meets its contract. The loop's invariant: `out` has the new numbers of the members
 -- below q. Assumes nothing.
-use mathlib.Core.Path.{◌≡◌, refl, sym, ap, ◌∙◌}
-use mathlib.Core.Logic.{⊎_elim}
-use Prim.Native.Nat.{ℕ, ◌-◌, ◌≤◌}
-use native.Mathlib.Omega.{arith}
-use lib.Bits.{bit_and}
-use borrow.Author.Rules.{rules}
+use mathlib.Core.Path.{◌≡◌}
+use Prim.Native.Nat.{◌-◌, ◌≤◌}
 use Rattle.masks.specs.Masks.{single, union}
 use Rattle.masks.specs.Turns.{rank}
-use Rattle.reduce.proofs.Ways.{count_low, more, skip}
 use Rattle.reduce.proofs.renamed.Given as goal
 
 abbrev pub invariant-loop-q : goal.invariant-loop-q

@@ -1,9 +1,8 @@
 -- `table_of` meets its contract: the cells below `cell` are those of the result. Assumes nothing.
 use mathlib.Core.Path.{◌≡◌, ◌∙◌}
-use Prim.Native.Nat.{ℕ, ◌-◌, ◌<◌, ◌≤◌}
+use Prim.Native.Nat.{ℕ, ◌<◌}
 use native.Mathlib.Omega.{arith}
-use lib.ListN.{length, get_or, length-set, length-replicate}
-use borrow.Author.Rules.{rules}
+use lib.ListN.{length, length-set, length-replicate}
 use Rattle.base.proofs.Lists.{is_list_from, cell_stored}
 use Rattle.reducing.specs.Reduced.{cell_in}
 use Rattle.reduce.proofs.table_of.Goals as goal

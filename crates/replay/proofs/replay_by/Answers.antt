@@ -1,12 +1,10 @@
 -- `replay_by` meets its contract. Assumes nothing.
-use mathlib.Core.Path.{◌≡◌, refl, sym, ap, ◌∙◌}
-use Prim.Native.Nat.{◌-◌, ◌≤◌}
+use mathlib.Core.Path.{refl, sym, ap, ◌∙◌}
 use native.Mathlib.Omega.{arith}
 use borrow.Author.Rules.{rules}
-use lib.ListN.{length}
 use Rattle.replay.specs.Records.{verdict}
 use Rattle.lines.proofs.Parts.{part_from, part_to}
-use Rattle.replay.proofs.Reading.{Going, going_first, going_last, going_wrong, going_on}
+use Rattle.replay.proofs.Reading.{going_first, going_last, going_wrong, going_on}
 use Rattle.replay.proofs.replay_by.Goals as goal
 
 pub loop-at-init : goal.loop-at-init

@@ -1,12 +1,8 @@
 -- `replay_by` meets its contract. Assumes nothing.
-use mathlib.Core.Path.{◌≡◌, refl, sym, ap, ◌∙◌}
+use mathlib.Core.Path.{◌≡◌}
 use Prim.Native.Nat.{◌-◌, ◌≤◌}
-use native.Mathlib.Omega.{arith}
-use borrow.Author.Rules.{rules}
 use lib.ListN.{length}
-use Rattle.replay.specs.Records.{verdict}
-use Rattle.lines.proofs.Parts.{part_from, part_to}
-use Rattle.replay.proofs.Reading.{Going, going_first, going_last, going_wrong, going_on}
+use Rattle.replay.proofs.Reading.{Going}
 use Rattle.replay.proofs.replay_by.Given as goal
 
 abbrev pub invariant-loop-at : goal.invariant-loop-at

@@ -1,7 +1,6 @@
 -- `bad_masks` meets its contract. Assumes nothing.
 use mathlib.Core.Logic.{inl}
 use mathlib.Core.Path.{sym, ◌∙◌}
-use borrow.Author.Rules.{rules}
 use Rattle.base.proofs.Tests.{or_either}
 use Rattle.rulecheck.specs.Checking.{beyond}
 use Rattle.rulecheck.proofs.bad_masks.Goals as goal

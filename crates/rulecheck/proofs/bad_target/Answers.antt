@@ -2,7 +2,6 @@
 -- any other below 2 ^ n. Assumes nothing.
 use mathlib.Core.Logic.{inl, inr}
 use mathlib.Core.Path.{sym, ◌∙◌}
-use borrow.Author.Rules.{rules}
 use Rattle.rulecheck.proofs.Targets.{kept_cell_lem, own_cell}
 use Rattle.rulecheck.proofs.bad_target.Goals as goal
 

@@ -1,12 +1,9 @@
 -- `bad_targets` meets its contract. The loop's invariant: no cell passed is bad. Assumes nothing.
-use mathlib.Core.Bool.{Bool, true, false}
-use mathlib.Core.List.{List}
-use mathlib.Core.Path.{◌≡◌, sym, ◌∙◌}
-use Prim.Native.Nat.{ℕ, ◌+◌, ◌-◌, ◌≤◌, ◌<◌}
-use native.Mathlib.Omega.{arith}
+use mathlib.Core.Bool.{false}
+use mathlib.Core.Path.{◌≡◌}
+use Prim.Native.Nat.{◌-◌, ◌≤◌}
 use Rattle.base.specs.Conditions.{any_below}
-use Rattle.base.proofs.Conditions.{none_yet, none_more, any_at}
-use Rattle.rulecheck.specs.Checking.{bad_cell, bad_targets}
+use Rattle.rulecheck.specs.Checking.{bad_cell}
 use Rattle.rulecheck.proofs.bad_targets.Given as goal
 
 abbrev pub invariant-loop-cell : goal.invariant-loop-cell

@@ -7,7 +7,6 @@ use native.Mathlib.Nat.{div-eq_of_lt, le-div_iff_mul-le, one-mul}
 use native.Mathlib.Omega.{arith}
 use lib.Dec.{eqb, leb}
 use lib.Pow.{pow_pos, pow_mono}
-use borrow.Author.Rules.{rules}
 use borrow.Author.Tests.{eq-eqb, ne_eqb, leb-true, leb-false, lt-leb}
 use Rattle.base.proofs.Tests.{by_test}
 use Rattle.rulecheck.proofs.beyond.Goals as goal

@@ -8,7 +8,6 @@ use Rattle.ruleformat.specs.Refusals.{refusal}
 use Rattle.ruleformat.specs.Reader.{Reading, rule_by, rule_of}
 use Rattle.build.specs.mirror.Building.{build_of}
 use Rattle.ruletext.proofs.ForFile.{text_for_lem, text_unread}
-use borrow.Author.Rules.{rules}
 use Rattle.ruletext.proofs.print_whole.Goals as goal
 
 pub returns-in-Accepted : goal.returns-in-Accepted

@@ -2,7 +2,6 @@
 use mathlib.Core.Path.{◌≡◌, ap}
 use Rattle.build.specs.declared.BuildAnswer.{BuildAnswer}
 use Rattle.ruletext.specs.RuleText.{rule_text, refused_text, answer_text, text_of}
-use borrow.Author.Rules.{rules}
 use Rattle.ruletext.proofs.put_building.Goals as goal
 
 pub returns-in-Accepted : goal.returns-in-Accepted

@@ -3,7 +3,6 @@ use native.Mathlib.Omega.{arith}
 use borrow.Author.Tests.{lt-ltb, le-ltb}
 use Rattle.text.proofs.Fitting.{put, ◌then◌}
 use Rattle.ruletext.proofs.Lengths.{number_most}
-use borrow.Author.Rules.{rules}
 use Rattle.ruletext.proofs.put_cell.Goals as goal
 
 pub put_decimal-requires : goal.put_decimal-requires

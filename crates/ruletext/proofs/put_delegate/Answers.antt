@@ -4,7 +4,6 @@ use mathlib.Core.List.{[], ◌∷◌}
 use Rattle.delegates.specs.declared.DelegateAnswer.{DelegateAnswer}
 use Rattle.delegates.specs.mirror.Answer.{delegate_means}
 use Rattle.ruletext.specs.RuleText.{field, delegate_text}
-use borrow.Author.Rules.{rules}
 use Rattle.ruletext.proofs.put_delegate.Goals as goal
 
 pub returns-in-State : goal.returns-in-State

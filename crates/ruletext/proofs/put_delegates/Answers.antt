@@ -1,7 +1,6 @@
 -- `put_delegates` meets its contract. Assumes nothing.
 use native.Mathlib.Omega.{arith}
 use Rattle.text.proofs.Fitting.{put, ◌then◌}
-use borrow.Author.Rules.{rules}
 use Rattle.ruletext.proofs.put_delegates.Goals as goal
 
 pub returns : goal.returns

@@ -1,15 +1,11 @@
 -- `put_fields` meets its contract. The loop's invariant: the delegates of the first q states are
 -- written. Assumes nothing.
-use native.Mathlib.Omega.{arith}
 use Prim.Native.Nat.{◌+◌, ◌*◌, ◌-◌, ◌≤◌}
-use mathlib.Core.Path.{◌≡◌}
 use lib.ListN.{length}
-use borrow.Author.Rules.{rules}
 use Rattle.base.specs.Lists.{joined}
 use Rattle.delegates.specs.Alike.{delegate_in}
 use Rattle.ruletext.specs.RuleText.{delegate_text}
-use Rattle.text.proofs.Fitting.{Put, put, none_put, one_more}
-use Rattle.ruletext.proofs.Lengths.{delegate_most, fields_most}
+use Rattle.text.proofs.Fitting.{Put}
 use Rattle.ruletext.proofs.put_fields.Given as goal
 
 abbrev pub invariant-loop-q : goal.invariant-loop-q

@@ -2,7 +2,6 @@
 use native.Mathlib.Nat.{le_refl}
 use Rattle.text.proofs.Rooms.{exact, most, left, fits, more, two}
 use Rattle.ruletext.proofs.Lengths.{byte_most, number_most}
-use borrow.Author.Rules.{rules}
 use Rattle.ruletext.proofs.put_head.Goals as goal
 
 pub put_decimal-b-requires : goal.put_decimal-b-requires

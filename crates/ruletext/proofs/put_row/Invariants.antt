@@ -1,13 +1,9 @@
 -- `put_row` meets its contract. The loop's invariant: the cells of the first s symbols are written.
 -- Assumes nothing.
-use native.Mathlib.Omega.{arith}
 use Prim.Native.Nat.{◌+◌, ◌*◌, ◌-◌, ◌≤◌, ◌<◌}
-use mathlib.Core.Path.{◌≡◌}
-use lib.ListN.{length, get_or}
-use Rattle.ruletext.specs.RuleText.{cell_text, row_text}
-use Rattle.text.proofs.Fitting.{Put, put, none_put, one_more}
-use Rattle.ruletext.proofs.Lengths.{cell_most, row_most}
-use borrow.Author.Rules.{rules}
+use lib.ListN.{length}
+use Rattle.ruletext.specs.RuleText.{row_text}
+use Rattle.text.proofs.Fitting.{Put}
 use Rattle.ruletext.proofs.put_row.Given as goal
 
 abbrev pub invariant-loop-s : goal.invariant-loop-s

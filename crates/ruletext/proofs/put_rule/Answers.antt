@@ -2,7 +2,6 @@
 use native.Mathlib.Omega.{arith}
 use Rattle.ruletext.proofs.Joining.{whole}
 use Rattle.ruletext.proofs.Lengths.{lines_most}
-use borrow.Author.Rules.{rules}
 use Rattle.ruletext.proofs.put_rule.Goals as goal
 
 pub put_sets-last-requires : goal.put_sets-last-requires

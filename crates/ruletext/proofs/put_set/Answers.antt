@@ -5,7 +5,6 @@ use lib.ListN.{get_or}
 use mathlib.Core.Path.{◌≡◌}
 use Rattle.text.proofs.Rooms.{exact, most, left, fits, more, two}
 use Rattle.ruletext.proofs.Lengths.{index_most, mask_most, cells_most, cells_room}
-use borrow.Author.Rules.{rules}
 use Rattle.ruletext.proofs.put_set.Goals as goal
 
 pub put_decimal-a-requires : goal.put_decimal-a-requires

@@ -1,12 +1,9 @@
 -- `put_sets` meets its contract. The loop's invariant: the lines of the first i sets are written.
 -- Assumes nothing.
 use native.Mathlib.Omega.{arith}
-use Prim.Native.Nat.{◌+◌, ◌*◌, ◌-◌, ◌≤◌}
 use mathlib.Core.Path.{◌≡◌}
-use lib.ListN.{length}
-use Rattle.base.specs.Lists.{joined}
 use Rattle.ruletext.specs.RuleText.{set_line}
-use Rattle.text.proofs.Fitting.{Put, put, none_put, one_more}
+use Rattle.text.proofs.Fitting.{put, none_put, one_more}
 use Rattle.ruletext.proofs.Lengths.{line_most, lines_most}
 use Rattle.ruletext.proofs.put_sets.Goals as goal
 

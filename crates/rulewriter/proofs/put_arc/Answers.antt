@@ -5,7 +5,6 @@ use mathlib.Core.Path.{◌≡◌, sym, ◌∙◌}
 use native.Mathlib.Omega.{arith}
 use Rattle.text.proofs.Pieces.{wrote_none}
 use Rattle.rulewriter.proofs.Parts.{both}
-use borrow.Author.Rules.{rules}
 use Rattle.rulewriter.proofs.put_arc.Goals as goal
 
 pub put_byte-a-requires : goal.put_byte-a-requires

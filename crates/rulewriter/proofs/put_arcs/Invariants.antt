@@ -1,8 +1,7 @@
 -- `put_arcs` meets its contract. The loop's invariant: the arcs to the first t states are written.
 -- Assumes nothing.
-use Rattle.rulewriter.proofs.Parts.{Parts, begin, fits, more, all}
+use Rattle.rulewriter.proofs.Parts.{Parts}
 use Rattle.rulewriter.specs.Written.{arc_to}
-use native.Mathlib.Omega.{arith}
 use Prim.Native.Nat.{◌-◌}
 use Rattle.rulewriter.proofs.put_arcs.Given as goal
 

@@ -1,7 +1,6 @@
 -- `put_file` meets its contract. Assumes nothing.
 use Rattle.rulewriter.proofs.Values.{well_formed, file_put}
 use native.Mathlib.Omega.{arith}
-use borrow.Author.Rules.{rules}
 use Rattle.rulewriter.proofs.put_file.Goals as goal
 
 pub put_states-requires : goal.put_states-requires

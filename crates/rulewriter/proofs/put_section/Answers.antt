@@ -1,13 +1,9 @@
 -- `put_section` meets its contract. The loop's invariant: the arcs by the first s symbols are written.
 -- Assumes nothing.
-use Rattle.rulewriter.proofs.Parts.{Parts, begin, fits, more, all}
-use Rattle.rulewriter.specs.Written.{arcs_by}
-use Rattle.automaton.specs.Rules.{target_mask}
-use mathlib.Core.List.{List}
+use Rattle.rulewriter.proofs.Parts.{begin, fits, more, all}
 use borrow.Author.Tests.{lt-ltb}
-use borrow.Author.Rules.{rules}
 use native.Mathlib.Omega.{arith}
-use Prim.Native.Nat.{ℕ, ◌-◌, ◌<◌}
+use Prim.Native.Nat.{◌<◌}
 use Rattle.rulewriter.proofs.put_section.Invariants.{part}
 use Rattle.rulewriter.proofs.put_section.Goals as goal
 

@@ -1,9 +1,7 @@
 -- `put_states` meets its contract. The loop's invariant: the pairs and the sections of the first q
 -- states are written. Assumes nothing.
-use Rattle.rulewriter.proofs.States.{States, begin, room, place, pair_room, more, all}
-use borrow.Author.Rules.{rules}
+use Rattle.rulewriter.proofs.States.{begin, room, place, pair_room, more, all}
 use native.Mathlib.Omega.{arith}
-use Prim.Native.Nat.{◌-◌}
 use Rattle.rulewriter.proofs.put_states.Goals as goal
 
 pub loop-q-init : goal.loop-q-init

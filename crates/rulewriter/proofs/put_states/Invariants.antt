@@ -1,8 +1,6 @@
 -- `put_states` meets its contract. The loop's invariant: the pairs and the sections of the first q
 -- states are written. Assumes nothing.
-use Rattle.rulewriter.proofs.States.{States, begin, room, place, pair_room, more, all}
-use borrow.Author.Rules.{rules}
-use native.Mathlib.Omega.{arith}
+use Rattle.rulewriter.proofs.States.{States}
 use Prim.Native.Nat.{◌-◌}
 use Rattle.rulewriter.proofs.put_states.Given as goal
 

@@ -1,6 +1,5 @@
 -- `put_word` meets its contract. Assumes nothing.
 use Rattle.rulewriter.proofs.Parts.{both}
-use borrow.Author.Rules.{rules}
 use Rattle.rulewriter.proofs.put_word.Goals as goal
 
 pub returns : goal.returns

@@ -1,5 +1,4 @@
 -- `print_samples` meets its contract. Assumes nothing.
-use borrow.Author.Rules.{rules}
 use Rattle.sampletext.proofs.Lines.{file_read, file_refused}
 use Rattle.sampletext.proofs.print_samples.Goals as goal
 

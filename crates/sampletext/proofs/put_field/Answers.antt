@@ -1,5 +1,4 @@
 -- `put_field` meets its contract. Assumes nothing.
-use borrow.Author.Rules.{rules}
 use Rattle.sampletext.proofs.Lines.{field_empty, field_digits}
 use Rattle.sampletext.proofs.put_field.Goals as goal
 

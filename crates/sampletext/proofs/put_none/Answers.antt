@@ -1,6 +1,5 @@
 -- `put_none` meets its contract. Assumes nothing.
 use native.Mathlib.Omega.{arith}
-use borrow.Author.Rules.{rules}
 use Rattle.text.proofs.Rooms.{most, two}
 use Rattle.sampletext.proofs.put_none.Goals as goal
 

@@ -1,5 +1,4 @@
 -- `put_rejected` meets its contract. Assumes nothing.
-use borrow.Author.Rules.{rules}
 use Rattle.samples.specs.declared.Wish.TheVariants.{Rejected}
 use Rattle.sampletext.proofs.Lines.{sample_is}
 use Rattle.sampletext.proofs.put_rejected.Goals as goal

@@ -1,5 +1,4 @@
 -- `put_samples` meets its contract, answer by answer. Assumes nothing.
-use borrow.Author.Rules.{rules}
 use Rattle.text.proofs.Rooms.{two}
 use Rattle.sampletext.proofs.Lines.{lines_text, lines_none, lines_refused}
 use Rattle.sampletext.proofs.put_samples.Goals as goal

@@ -1,6 +1,5 @@
 -- `put_text` meets its contract. Assumes nothing.
 use native.Mathlib.Omega.{arith}
-use borrow.Author.Rules.{rules}
 use Rattle.text.proofs.Rooms.{exact, most, left, more, two}
 use Rattle.sampletext.proofs.Lines.{field_most}
 use Rattle.sampletext.proofs.put_text.Goals as goal

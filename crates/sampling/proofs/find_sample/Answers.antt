@@ -1,6 +1,5 @@
 -- `find_sample` meets its contract: the check refuses the rule, or it is searched. Assumes nothing.
 use mathlib.Core.Path.{sym, ap, ◌∙◌}
-use borrow.Author.Rules.{rules}
 use Rattle.base.specs.Answers.{answer_number}
 use Rattle.rulecheck.proofs.Claims as check
 use Rattle.sampling.proofs.Ways.{find_refused}

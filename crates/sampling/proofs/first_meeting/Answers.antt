@@ -1,12 +1,9 @@
 -- `first_meeting` meets its contract. The invariant: no set passed meets the wish. Assumes
 -- nothing.
-use mathlib.Core.Path.{◌≡◌, sym, ◌∙◌}
+use mathlib.Core.Path.{sym, ◌∙◌}
 use mathlib.Core.Bool.{false}
-use Prim.Native.Nat.{ℕ, ◌-◌, ◌≤◌, ◌<◌}
 use native.Mathlib.Omega.{arith}
-use lib.ListN.{get_or}
 use borrow.Author.Count.{below_more}
-use borrow.Author.Rules.{rules}
 use Rattle.samples.specs.Search.{meets}
 use Rattle.searches.proofs.Cells.{where_found, where_none}
 use Rattle.sampling.proofs.first_meeting.Goals as goal

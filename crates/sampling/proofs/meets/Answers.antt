@@ -2,7 +2,6 @@
 use mathlib.Core.Path.{sym, ap, ◌∙◌}
 use lib.Bits.{bit_and}
 use lib.Dec.{eqb}
-use borrow.Author.Rules.{rules}
 use Rattle.samples.specs.declared.Wish.{Wish}
 use Rattle.samples.specs.Search.{meets}
 use Rattle.sampling.proofs.Ways.{not-not}

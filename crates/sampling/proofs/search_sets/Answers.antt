@@ -1,6 +1,5 @@
 -- `search_sets` meets its contract, one way out at a time. Assumes nothing.
 use native.Mathlib.Omega.{arith}
-use borrow.Author.Rules.{rules}
 use Rattle.sampling.proofs.Ways.{most, tabled, search_over, search_text, search_none}
 use Rattle.sampling.proofs.search_sets.Goals as goal
 

@@ -1,7 +1,6 @@
 -- `digest` meets its contract: the bytes that are left go on from the digest so far. Assumes
 -- nothing.
-use Rattle.std.proofs.Common.{◌-◌, arith, rules}
-use Rattle.saved_judge.proofs.Sums.{Summed, summed_begin, summed_more, summed_done}
+use Rattle.saved_judge.proofs.Sums.{summed_begin, summed_more, summed_done}
 use Rattle.saved_judge.proofs.digest.Goals as goal
 
 pub loop-i-init : goal.loop-i-init

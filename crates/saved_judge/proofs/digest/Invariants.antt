@@ -1,7 +1,7 @@
 -- `digest` meets its contract: the bytes that are left go on from the digest so far. Assumes
 -- nothing.
-use Rattle.std.proofs.Common.{◌-◌, arith, rules}
-use Rattle.saved_judge.proofs.Sums.{Summed, summed_begin, summed_more, summed_done}
+use Rattle.std.proofs.Common.{◌-◌}
+use Rattle.saved_judge.proofs.Sums.{Summed}
 use Rattle.saved_judge.proofs.digest.Given as goal
 
 abbrev pub invariant-loop-i : goal.invariant-loop-i

@@ -1,5 +1,5 @@
 -- `get_built` meets its contract. Assumes nothing.
-use Rattle.std.proofs.Common.{ℕ, ap, ◌∙◌, rules}
+use Rattle.std.proofs.Common.{ℕ, ap, ◌∙◌}
 use Rattle.text.proofs.Rooms.{made}
 use Rattle.saved_judge.specs.Little.{numbers_at}
 use Rattle.saved_judge.proofs.get_built.Goals as goal

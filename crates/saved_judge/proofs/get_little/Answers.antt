@@ -1,7 +1,7 @@
 -- `get_little` meets its contract. The loop's invariant: the number is what the bytes passed say.
 -- Assumes nothing.
-use Rattle.std.proofs.Common.{◌+◌, ◌-◌, arith, rules}
-use Rattle.saved_judge.proofs.Steps.{Read, read_begin, read_fits, read_more, read_done}
+use Rattle.std.proofs.Common.{◌+◌, ◌-◌, arith}
+use Rattle.saved_judge.proofs.Steps.{read_begin, read_fits, read_more, read_done}
 use Rattle.saved_judge.proofs.get_little.Goals as goal
 
 pub loop-left-init : goal.loop-left-init

@@ -1,7 +1,6 @@
 -- `get_little` meets its contract. The loop's invariant: the number is what the bytes passed say.
 -- Assumes nothing.
-use Rattle.std.proofs.Common.{◌+◌, ◌-◌, arith, rules}
-use Rattle.saved_judge.proofs.Steps.{Read, read_begin, read_fits, read_more, read_done}
+use Rattle.saved_judge.proofs.Steps.{Read}
 use Rattle.saved_judge.proofs.get_little.Given as goal
 
 abbrev pub invariant-loop-left : goal.invariant-loop-left

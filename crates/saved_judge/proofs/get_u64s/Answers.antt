@@ -1,7 +1,7 @@
 -- `get_u64s` meets its contract. The loop's invariant: the cells passed are the numbers at their
 -- places. Assumes nothing.
-use Rattle.std.proofs.Common.{◌-◌, length, refl, arith}
-use Rattle.saved_judge.proofs.Steps.{Got, got_begin, got_more, got_done}
+use Rattle.std.proofs.Common.{refl, arith}
+use Rattle.saved_judge.proofs.Steps.{got_begin, got_more, got_done}
 use Rattle.saved_judge.proofs.get_u64s.Goals as goal
 
 pub loop-i-init : goal.loop-i-init

@@ -1,5 +1,5 @@
 -- `head_right` meets its contract. Assumes nothing.
-use Rattle.std.proofs.Common.{sym, ◌∙◌, rules}
+use Rattle.std.proofs.Common.{sym, ◌∙◌}
 use Rattle.saved_judge.proofs.Ways.{wrong_0, wrong_1, wrong_2, wrong_3, head_is}
 use Rattle.saved_judge.proofs.head_right.Goals as goal
 

@@ -1,5 +1,4 @@
 -- `is_saved` meets its contract. Assumes nothing.
-use Rattle.std.proofs.Common.{rules}
 use Rattle.saved_judge.proofs.Ways.{no_size, no_head, all_right}
 use Rattle.saved_judge.proofs.is_saved.Goals as goal
 

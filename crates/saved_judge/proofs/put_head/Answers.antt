@@ -1,5 +1,5 @@
 -- `put_head` meets its contract. Assumes nothing.
-use Rattle.std.proofs.Common.{◌≤◌, length, arith, rules}
+use Rattle.std.proofs.Common.{◌≤◌, length, arith}
 use Rattle.saved_judge.specs.Saved.{head_fields}
 use Rattle.saved_judge.proofs.Goes.{all_left, next_one, none_left}
 use Rattle.saved_judge.proofs.Ways.{fields_length}

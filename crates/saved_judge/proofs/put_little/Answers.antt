@@ -1,7 +1,7 @@
 -- `put_little` meets its contract. The loop's invariant: what is left is to be written there.
 -- Assumes nothing.
-use Rattle.std.proofs.Common.{arith, rules}
-use Rattle.saved_judge.proofs.Steps.{Digits, digits_begin, digits_room, digits_more, digits_done}
+use Rattle.std.proofs.Common.{arith}
+use Rattle.saved_judge.proofs.Steps.{digits_begin, digits_room, digits_more, digits_done}
 use Rattle.saved_judge.proofs.put_little.Goals as goal
 
 pub loop-left-init : goal.loop-left-init

@@ -1,7 +1,6 @@
 -- `put_little` meets its contract. The loop's invariant: what is left is to be written there.
 -- Assumes nothing.
-use Rattle.std.proofs.Common.{arith, rules}
-use Rattle.saved_judge.proofs.Steps.{Digits, digits_begin, digits_room, digits_more, digits_done}
+use Rattle.saved_judge.proofs.Steps.{Digits}
 use Rattle.saved_judge.proofs.put_little.Given as goal
 
 abbrev pub invariant-loop-left : goal.invariant-loop-left

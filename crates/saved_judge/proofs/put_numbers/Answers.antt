@@ -1,5 +1,5 @@
 -- `put_numbers` meets its contract. Assumes nothing.
-use Rattle.std.proofs.Common.{◌∙◌, arith, rules}
+use Rattle.std.proofs.Common.{◌∙◌, arith}
 use Rattle.saved_judge.specs.Saved.{number_fields}
 use Rattle.saved_judge.proofs.Goes.{all_left, next_one, none_left}
 use Rattle.saved_judge.proofs.Ways.{fields_length}

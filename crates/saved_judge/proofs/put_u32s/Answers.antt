@@ -1,7 +1,7 @@
 -- `put_u32s` meets its contract. The loop's invariant: the numbers that are left are to be written
 -- there. Assumes nothing.
-use Rattle.std.proofs.Common.{◌-◌, length, arith}
-use Rattle.saved_judge.proofs.Steps.{Cells, cells_begin, cells_room, cells_more, cells_done}
+use Rattle.std.proofs.Common.{arith}
+use Rattle.saved_judge.proofs.Steps.{cells_begin, cells_room, cells_more, cells_done}
 use Rattle.saved_judge.proofs.put_u32s.Goals as goal
 
 pub loop-i-init : goal.loop-i-init

@@ -1,7 +1,7 @@
 -- `put_u64s` meets its contract. The loop's invariant: the numbers that are left are to be written
 -- there. Assumes nothing.
-use Rattle.std.proofs.Common.{◌-◌, length, arith}
-use Rattle.saved_judge.proofs.Steps.{Cells, cells_begin, cells_room, cells_more, cells_done}
+use Rattle.std.proofs.Common.{◌-◌, length}
+use Rattle.saved_judge.proofs.Steps.{Cells}
 use Rattle.saved_judge.proofs.put_u64s.Given as goal
 
 abbrev pub invariant-loop-i : goal.invariant-loop-i

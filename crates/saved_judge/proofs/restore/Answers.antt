@@ -1,5 +1,5 @@
 -- `restore` meets its contract. Assumes nothing.
-use Rattle.std.proofs.Common.{sym, ◌∙◌, rules}
+use Rattle.std.proofs.Common.{sym, ◌∙◌}
 use Rattle.saved_judge.proofs.Ways.{size_right, accepted_is, refused_is}
 use Rattle.saved_judge.proofs.restore.Goals as goal
 

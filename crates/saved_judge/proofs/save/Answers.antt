@@ -1,5 +1,4 @@
 -- `save` meets its contract. Assumes nothing.
-use Rattle.std.proofs.Common.{rules}
 use Rattle.text.proofs.Rooms.{made}
 use Rattle.saved_judge.proofs.Ways.{whole_saved}
 use Rattle.saved_judge.proofs.save.Goals as goal

@@ -1,10 +1,6 @@
 -- `first_cell` meets its contract. The invariant: no cell of a row passed holds the number. It stands
 -- in a row before its own, so the loop does not pass them all. Assumes nothing.
-use mathlib.Core.Path.{◌≡◌}
-use Prim.Native.Nat.{ℕ, ◌-◌, ◌*◌, ◌≤◌, ◌<◌}
 use native.Mathlib.Omega.{arith}
-use lib.ListN.{get_or}
-use borrow.Author.Rules.{rules}
 use Rattle.searches.proofs.Cells.{few_symbols, cell_found, row_passed, cell_none}
 use Rattle.searches.proofs.first_cell.Goals as goal
 

@@ -2,10 +2,7 @@
 -- in a row before its own, so the loop does not pass them all. Assumes nothing.
 use mathlib.Core.Path.{◌≡◌}
 use Prim.Native.Nat.{ℕ, ◌-◌, ◌*◌, ◌≤◌, ◌<◌}
-use native.Mathlib.Omega.{arith}
 use lib.ListN.{get_or}
-use borrow.Author.Rules.{rules}
-use Rattle.searches.proofs.Cells.{few_symbols, cell_found, row_passed, cell_none}
 use Rattle.searches.proofs.first_cell.Given as goal
 
 abbrev pub invariant-loop-row : goal.invariant-loop-row

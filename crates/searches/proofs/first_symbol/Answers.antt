@@ -1,11 +1,7 @@
 -- `first_symbol` meets its contract. The invariant: by no symbol passed does the set lead there.
 -- Assumes nothing.
-use mathlib.Core.Path.{◌≡◌}
-use Prim.Native.Nat.{ℕ, ◌+◌, ◌-◌, ◌*◌, ◌≤◌, ◌<◌}
 use native.Mathlib.Omega.{arith}
-use lib.ListN.{get_or}
 use borrow.Author.Count.{below_more}
-use borrow.Author.Rules.{rules}
 use Rattle.searches.proofs.first_symbol.Goals as goal
 
 pub loop-s-init : goal.loop-s-init

@@ -1,9 +1,7 @@
 -- `front_text` meets its contract: the array has the text before c, and zeros from there on. Assumes
 -- nothing.
 use native.Mathlib.Omega.{arith}
-use Prim.Native.Nat.{◌-◌}
-use lib.ListN.{length}
-use Rattle.searches.proofs.Copies.{Copied, copy_begins, copy_more, copied}
+use Rattle.searches.proofs.Copies.{copy_begins, copy_more, copied}
 use Rattle.searches.proofs.front_text.Goals as goal
 
 pub loop-c-init : goal.loop-c-init

@@ -1,9 +1,8 @@
 -- `front_text` meets its contract: the array has the text before c, and zeros from there on. Assumes
 -- nothing.
-use native.Mathlib.Omega.{arith}
 use Prim.Native.Nat.{◌-◌}
 use lib.ListN.{length}
-use Rattle.searches.proofs.Copies.{Copied, copy_begins, copy_more, copied}
+use Rattle.searches.proofs.Copies.{Copied}
 use Rattle.searches.proofs.front_text.Given as goal
 
 abbrev pub invariant-loop-c : goal.invariant-loop-c

@@ -4,19 +4,13 @@
 -- here on is what the whole block gives. A turn feeds one part: a line that goes on is kept
 -- (`turn_on`); one that is skipped, one that asks for the verdict or a question, and one that is run are
 -- answered (`turn_answered`), all but the last from the judge at hand. The loop ends where the block is used up or the room is short.
-use Rattle.linetexts.proofs.Turns.{turn_forward, turn_on, turn_answered}
-use Rattle.linetexts.proofs.Gathering.{SoFar, begun, ended, at_over, gather_short, placed_within}
-use Rattle.linetexts.proofs.Lists.{skipped_state, skipped_text_lem}
-use Rattle.linetexts.proofs.Ends.{came}
+use Rattle.linetexts.proofs.Gathering.{SoFar, ended}
 use Rattle.linetexts.specs.Beginnings.{state_of}
-use Rattle.linetexts.specs.Lists.{list_of, list_teller}
-use Rattle.stream.specs.Texts.{call_lines, call_list}
-use Rattle.stream.proofs.Held.{read_within, read_whole, verdict_came, ask_inside, ask_came, run_inside, run_came}
+use Rattle.linetexts.specs.Lists.{list_of}
+use Rattle.stream.specs.Texts.{call_lines}
 use lib.ListN.{length}
-use Prim.Native.Nat.{◌-◌, ◌<◌}
-use native.Mathlib.Omega.{arith}
-use mathlib.Core.Path.{◌≡◌, refl, ◌∙◌}
-use borrow.Author.Rules.{rules}
+use Prim.Native.Nat.{◌-◌}
+use mathlib.Core.Path.{◌≡◌}
 use Rattle.stream.proofs.gather.Given as goal
 
 abbrev pub invariant-loop-at : goal.invariant-loop-at

@@ -1,16 +1,11 @@
 -- `fill` meets its contract. The loop's invariant: the first count sets are those that the
 -- definition has after the states below q, and the arrays hold them and every cell of theirs.
 -- Assumes nothing.
-use mathlib.Core.Path.{◌≡◌, refl, sym, ap, ◌∙◌}
+use mathlib.Core.Path.{◌≡◌}
 use Prim.Native.Nat.{◌-◌, ◌*◌, ◌≤◌, min}
-use native.Mathlib.Omega.{arith}
 use lib.ListN.{take}
-use borrow.Author.Rules.{rules}
-use Rattle.numbering.specs.Numbering.{keys_up_to}
 use Rattle.numbering.specs.mirror.Arrays.{ArraysHold}
-use Rattle.numbering.proofs.Turns.{begin, grown_whole}
-use Rattle.subsets.specs.Sets.{set_walk, sets_up_to, sets_of}
-use Rattle.subsets.proofs.Turns.{in_row, not_empty, states_more, states_over}
+use Rattle.subsets.specs.Sets.{set_walk, sets_up_to}
 use Rattle.subsets.proofs.fill.Given as goal
 
 abbrev pub invariant-loop-q : goal.invariant-loop-q

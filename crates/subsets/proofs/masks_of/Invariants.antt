@@ -1,10 +1,7 @@
 -- `masks_of` meets its contract: the lower halves of the sets before i are stored. Assumes nothing.
-use mathlib.Core.Path.{◌≡◌, refl, ◌∙◌}
+use mathlib.Core.Path.{◌≡◌}
 use Prim.Native.Nat.{ℕ, ◌-◌, ◌%◌, ◌^◌, ◌≤◌, ◌<◌}
-use native.Mathlib.Omega.{arith}
-use lib.ListN.{length, get_or, length-set}
-use borrow.Author.Rules.{rules}
-use Rattle.base.proofs.Lists.{cell_stored, is_list_from}
+use lib.ListN.{length, get_or}
 use Rattle.subsets.proofs.masks_of.Given as goal
 
 abbrev pub invariant-loop-i : goal.invariant-loop-i

@@ -1,7 +1,6 @@
 -- `number_sets` meets its contract: the arrays begin with every cell not in use, and what `fill`
 -- leaves in them is the table, the sets as masks. Assumes nothing.
 use mathlib.Core.Path.{refl}
-use borrow.Author.Rules.{rules}
 use Rattle.base.specs.Lists.{list_from}
 use Rattle.subsets.proofs.Tables.{table_whole, table_over}
 use Rattle.subsets.proofs.number_sets.Goals as goal

@@ -3,7 +3,6 @@ use mathlib.Core.Path.{◌≡◌, sym, ap, ◌∙◌}
 use mathlib.Core.Option.{none, some}
 use Prim.Native.Nat.{ℕ}
 use lib.ListN.{take}
-use borrow.Author.Rules.{rules}
 use Rattle.masks.specs.Masks.{single}
 use Rattle.numbering.specs.mirror.Arrays.{found_in}
 use Rattle.keys.specs.mirror.Steps.{found_means}

@@ -2,10 +2,9 @@
 -- nothing.
 use Rattle.base.proofs.Lists.{cell_stored, is_list_from}
 use Rattle.subsets.specs.mirror.Singles.{singleton_number}
-use lib.ListN.{length, get_or, length-set}
+use lib.ListN.{length-set}
 use native.Mathlib.Omega.{arith}
-use Prim.Native.Nat.{ℕ, ◌-◌, ◌≤◌, ◌<◌}
-use mathlib.Core.Path.{◌≡◌, refl, ◌∙◌}
+use mathlib.Core.Path.{refl, ◌∙◌}
 use Rattle.subsets.proofs.number_singles.Goals as goal
 
 pub loop-q-init : goal.loop-q-init

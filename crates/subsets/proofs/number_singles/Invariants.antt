@@ -1,11 +1,9 @@
 -- `number_singles` meets its contract: the numbers of the states before q are stored. Assumes
 -- nothing.
-use Rattle.base.proofs.Lists.{cell_stored, is_list_from}
 use Rattle.subsets.specs.mirror.Singles.{singleton_number}
-use lib.ListN.{length, get_or, length-set}
-use native.Mathlib.Omega.{arith}
+use lib.ListN.{length, get_or}
 use Prim.Native.Nat.{ℕ, ◌-◌, ◌≤◌, ◌<◌}
-use mathlib.Core.Path.{◌≡◌, refl, ◌∙◌}
+use mathlib.Core.Path.{◌≡◌}
 use Rattle.subsets.proofs.number_singles.Given as goal
 
 abbrev pub invariant-loop-q : goal.invariant-loop-q

@@ -1,6 +1,5 @@
 -- `words` meets its contract: what is read of a slice of `u32` is one. Assumes nothing.
 use native.Mathlib.Omega.{arith}
-use borrow.Author.Rules.{rules}
 use Rattle.subsets.proofs.words.Goals as goal
 
 pub overflow_cast-result : goal.overflow_cast-result

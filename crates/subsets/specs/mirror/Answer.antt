@@ -2,11 +2,11 @@
 -- there are more than 512 (9), and, where there are not, both arrays whole, each cell that is not
 -- in use too, and the number of each singleton. A refusal carries zeros.
 --
---   NumberingReply, numberingMeans       document 01's answer: the number of sets, or refused with
+--   NumberingReply, numbering_means      document 01's answer: the number of sets, or refused with
 --                                        a number; and what each case of the code's answer says
---   Table, tableOutcome   the answer, with the arrays beside it; and the outcome that the code's
+--   Table, table_outcome  the answer, with the arrays beside it; and the outcome that the code's
 --                         result stands for
---   noTable            refused with 9: zeros
+--   no_table           refused with 9: zeros
 --   table_of ts n k     the table of a rule with the targets ts, n states and k symbols
 use Rattle.std.specs.Prelude.{cond, List, ℕ, length, replicate}
 use Rattle.limits.specs.Limits.{most_states, most_sets, table_cells}

@@ -1,8 +1,8 @@
 -- The number of {q} for each state q (document 01, "Sets and their order"). `sets` is the array of
 -- numbered sets, of which the first `count` cells are in use.
 --
---   singletonNumber sets count q   the number of {q}, or 512, which stands for the empty set
---   singlesOf sets count           that number for each of the 32 states
+--   singleton_number sets count q  the number of {q}, or 512, which stands for the empty set
+--   singles_of sets count          that number for each of the 32 states
 use Rattle.std.specs.Prelude.{cond, List, ℕ, ltb, take}
 use Rattle.limits.specs.Limits.{most_states, empty_set}
 use Rattle.base.specs.Lists.{list_from}

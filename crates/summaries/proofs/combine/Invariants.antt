@@ -1,12 +1,8 @@
 -- `combine` meets its contract, cell by cell. Assumes nothing.
-use mathlib.Core.Path.{◌≡◌, refl, ◌∙◌}
+use mathlib.Core.Path.{◌≡◌}
 use Prim.Native.Nat.{ℕ, ◌-◌, ◌≤◌, ◌<◌}
-use native.Mathlib.Omega.{arith}
-use lib.ListN.{length, get_or, length-set}
-use borrow.Author.Rules.{rules}
-use Rattle.base.proofs.Lists.{cell_stored, is_list_from}
+use lib.ListN.{length, get_or}
 use Rattle.compositions.specs.Relations.{image_of}
-use Rattle.summaries.proofs.Ways.{same_summary}
 use Rattle.summaries.proofs.combine.Given as goal
 
 abbrev pub invariant-loop-q : goal.invariant-loop-q

@@ -1,9 +1,7 @@
 -- `leads_of` meets its contract, cell by cell. Assumes nothing.
-use mathlib.Core.Path.{◌≡◌, refl, ◌∙◌}
-use Prim.Native.Nat.{ℕ, ◌-◌, ◌≤◌, ◌<◌}
+use mathlib.Core.Path.{refl, ◌∙◌}
 use native.Mathlib.Omega.{arith}
-use lib.ListN.{length, get_or, length-set}
-use borrow.Author.Rules.{rules}
+use lib.ListN.{get_or, length-set}
 use Rattle.base.proofs.Lists.{cell_stored, is_list_from}
 use Rattle.chunks.specs.mirror.Walks.{delegate_mask}
 use Rattle.summaries.proofs.leads_of.Goals as goal

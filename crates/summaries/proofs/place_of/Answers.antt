@@ -1,5 +1,4 @@
 -- `place_of` meets its contract. Assumes nothing.
-use borrow.Author.Rules.{rules}
 use Rattle.summaries.proofs.Ways.{other_place}
 use Rattle.summaries.proofs.place_of.Goals as goal
 

@@ -1,5 +1,4 @@
 -- `put_answer` meets its contract. Assumes nothing.
-use borrow.Author.Rules.{rules}
 use Rattle.tabletext.proofs.Whole.{says_text, great_text, malformed_text_lem}
 use Rattle.tabletext.proofs.put_answer.Goals as goal
 

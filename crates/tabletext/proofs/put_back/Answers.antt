@@ -1,5 +1,4 @@
 -- `put_back` meets its contract. Assumes nothing.
-use borrow.Author.Rules.{rules}
 use Rattle.tabletext.proofs.Whole.{table_text, refused_text_lem, bounds}
 use Rattle.tabletext.proofs.put_back.Goals as goal
 

@@ -1,5 +1,4 @@
 -- `put_cell` meets its contract. Assumes nothing.
-use borrow.Author.Rules.{rules}
 use borrow.Author.Tests.{eq-eqb, ne_eqb}
 use Rattle.tabletext.proofs.put_cell.Goals as goal
 

@@ -1,11 +1,11 @@
 -- `put_cells` meets its contract. The loop's invariant: the first c cells are written. Assumes
 -- nothing.
 use mathlib.Core.Path.{◌≡◌}
-use Prim.Native.Nat.{◌+◌, ◌*◌, ◌/◌, ◌%◌, ◌-◌, ◌≤◌}
+use Prim.Native.Nat.{◌+◌, ◌*◌, ◌/◌, ◌%◌}
 use native.Mathlib.Omega.{arith}
-use lib.ListN.{length, get_or}
-use Rattle.text.proofs.Fitting.{Put, put, none_put, one_more}
-use Rattle.tabletext.specs.Answers.{cell_text, cells_text}
+use lib.ListN.{get_or}
+use Rattle.text.proofs.Fitting.{put, none_put, one_more}
+use Rattle.tabletext.specs.Answers.{cell_text}
 use Rattle.tabletext.proofs.Lengths.{text_most, cells_most, row_lt, column_lt}
 use Rattle.tabletext.proofs.put_cells.Goals as goal
 

@@ -1,12 +1,9 @@
 -- `put_cells` meets its contract. The loop's invariant: the first c cells are written. Assumes
 -- nothing.
-use mathlib.Core.Path.{◌≡◌}
-use Prim.Native.Nat.{◌+◌, ◌*◌, ◌/◌, ◌%◌, ◌-◌, ◌≤◌}
-use native.Mathlib.Omega.{arith}
-use lib.ListN.{length, get_or}
-use Rattle.text.proofs.Fitting.{Put, put, none_put, one_more}
-use Rattle.tabletext.specs.Answers.{cell_text, cells_text}
-use Rattle.tabletext.proofs.Lengths.{text_most, cells_most, row_lt, column_lt}
+use Prim.Native.Nat.{◌+◌, ◌*◌, ◌-◌, ◌≤◌}
+use lib.ListN.{length}
+use Rattle.text.proofs.Fitting.{Put}
+use Rattle.tabletext.specs.Answers.{cells_text}
 use Rattle.tabletext.proofs.put_cells.Given as goal
 
 abbrev pub invariant-loop-c : goal.invariant-loop-c

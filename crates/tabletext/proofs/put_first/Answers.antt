@@ -1,5 +1,4 @@
 -- `put_first` meets its contract. Assumes nothing.
-use borrow.Author.Rules.{rules}
 use native.Mathlib.Omega.{arith}
 use borrow.Author.Tests.{lt-ltb, le-ltb}
 use Rattle.ruletext.proofs.Lengths.{number_most}

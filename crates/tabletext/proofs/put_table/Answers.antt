@@ -1,5 +1,4 @@
 -- `put_table` meets its contract. Assumes nothing.
-use borrow.Author.Rules.{rules}
 use native.Mathlib.Omega.{arith}
 use Rattle.text.proofs.Fitting.{put, ◌then◌}
 use Rattle.tabletext.proofs.Lengths.{few_cells}

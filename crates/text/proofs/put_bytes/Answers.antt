@@ -2,12 +2,11 @@
 -- nothing.
 use native.Mathlib.Nat.{add-zero, add_assoc}
 use Rattle.text.proofs.Pieces.{wrote_none, wrote_byte, wrote_more}
-use Rattle.text.specs.Writing.{Wrote}
 use lib.Seq.{take-suc, take_all, length-take-le}
 use lib.ListN.{length, get_or, take, set, length-set}
 use native.Mathlib.Omega.{arith}
 use native.Mathlib.Numerals.{add-one}
-use Prim.Native.Nat.{◌+◌, ◌-◌, ◌≤◌}
+use Prim.Native.Nat.{◌+◌}
 use mathlib.Core.List.{[], ◌∷◌, ◌++◌}
 use mathlib.Core.Path.{◌≡◌, refl, ◌∙◌}
 use Rattle.text.proofs.put_bytes.Goals as goal

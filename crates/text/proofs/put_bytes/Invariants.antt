@@ -1,15 +1,9 @@
 -- `put_bytes` meets its contract. The loop's invariant: the first i bytes are written. Assumes
 -- nothing.
-use native.Mathlib.Nat.{add-zero, add_assoc}
-use Rattle.text.proofs.Pieces.{wrote_none, wrote_byte, wrote_more}
 use Rattle.text.specs.Writing.{Wrote}
-use lib.Seq.{take-suc, take_all, length-take-le}
-use lib.ListN.{length, get_or, take, set, length-set}
-use native.Mathlib.Omega.{arith}
-use native.Mathlib.Numerals.{add-one}
+use lib.ListN.{length, take}
 use Prim.Native.Nat.{◌+◌, ◌-◌, ◌≤◌}
-use mathlib.Core.List.{[], ◌∷◌, ◌++◌}
-use mathlib.Core.Path.{◌≡◌, refl, ◌∙◌}
+use mathlib.Core.Path.{◌≡◌}
 use Rattle.text.proofs.put_bytes.Given as goal
 
 abbrev pub invariant-loop-i : goal.invariant-loop-i

@@ -1,5 +1,4 @@
 -- `clear` meets its contract. Assumes nothing.
-use borrow.Author.Rules.{rules}
 use Rattle.trays.specs.Boards.{cleared_at}
 use Rattle.traybands.proofs.clear.Goals as goal
 

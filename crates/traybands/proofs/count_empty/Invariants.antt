@@ -1,15 +1,10 @@
 -- `count_empty` meets its contract: the empty marks before p are counted. Assumes nothing.
-use mathlib.Core.Path.{◌≡◌, refl, sym, ap, ◌∙◌}
-use mathlib.Core.Logic.{⊎_elim}
+use mathlib.Core.Path.{◌≡◌}
 use mathlib.Core.Bool.{cond}
-use Prim.Native.Nat.{ℕ, ◌+◌, ◌-◌, ◌≤◌}
-use native.Mathlib.Omega.{arith}
+use Prim.Native.Nat.{◌-◌, ◌≤◌}
 use lib.Dec.{eqb}
 use lib.ListN.{get_or}
-use borrow.Author.Tests.{eq-eqb, ne_eqb}
 use Rattle.base.specs.Totals.{total}
-use Rattle.base.proofs.Tests.{one_most}
-use Rattle.base.proofs.Totals.{total_more}
 use Rattle.traybands.proofs.count_empty.Given as goal
 
 abbrev pub invariant-loop-p : goal.invariant-loop-p

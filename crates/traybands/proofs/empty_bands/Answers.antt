@@ -1,5 +1,4 @@
 -- `empty_bands` meets its contract. Assumes nothing.
-use borrow.Author.Rules.{rules}
 use Rattle.trays.specs.Boards.{empty_bands}
 use Rattle.traybands.proofs.empty_bands.Goals as goal
 

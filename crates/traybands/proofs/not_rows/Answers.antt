@@ -1,5 +1,4 @@
 -- `not_rows` meets its contract. Assumes nothing.
-use borrow.Author.Rules.{rules}
 use borrow.Author.Tests.{eq-eqb, ne_eqb}
 use Rattle.traybands.proofs.not_rows.Goals as goal
 

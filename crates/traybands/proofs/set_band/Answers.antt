@@ -1,8 +1,6 @@
 -- `set_band` meets its contract: the first i cells of the band are stored. Assumes nothing.
-use Prim.Native.Nat.{◌-◌, ◌≤◌, ◌<◌}
 use native.Mathlib.Omega.{arith}
-use borrow.Author.Rules.{rules}
-use Rattle.traybands.proofs.Cells.{Stored, none_stored, one_stored, band_stored}
+use Rattle.traybands.proofs.Cells.{none_stored, one_stored, band_stored}
 use Rattle.traybands.proofs.set_band.Goals as goal
 
 pub loop-i-init : goal.loop-i-init

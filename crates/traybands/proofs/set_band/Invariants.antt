@@ -1,8 +1,6 @@
 -- `set_band` meets its contract: the first i cells of the band are stored. Assumes nothing.
 use Prim.Native.Nat.{◌-◌, ◌≤◌, ◌<◌}
-use native.Mathlib.Omega.{arith}
-use borrow.Author.Rules.{rules}
-use Rattle.traybands.proofs.Cells.{Stored, none_stored, one_stored, band_stored}
+use Rattle.traybands.proofs.Cells.{Stored}
 use Rattle.traybands.proofs.set_band.Given as goal
 
 abbrev pub invariant-loop-i : goal.invariant-loop-i

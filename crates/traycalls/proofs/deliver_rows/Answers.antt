@@ -1,7 +1,6 @@
 -- `deliver_rows` meets its contract, from 13 on: each way out by its lemma. Assumes nothing.
 use mathlib.Core.Path.{refl}
 use Rattle.trays.proofs.Ways.{deliver_13, deliver_22, delivered}
-use borrow.Author.Rules.{rules}
 use Rattle.std.proofs.lemmas.Bool.{not_from_false, not_from_true}
 use Rattle.traycalls.proofs.deliver_rows.Goals as goal
 

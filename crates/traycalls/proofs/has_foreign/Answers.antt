@@ -1,5 +1,4 @@
 -- `has_foreign` meets its contract. Assumes nothing.
-use borrow.Author.Rules.{rules}
 use Rattle.traycalls.proofs.has_foreign.Goals as goal
 
 pub returns-then-has_foreign : goal.returns-then-has_foreign

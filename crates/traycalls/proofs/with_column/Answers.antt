@@ -1,5 +1,4 @@
 -- `with_column` meets its contract. Assumes nothing.
-use borrow.Author.Rules.{rules}
 use Rattle.traycalls.proofs.with_column.Goals as goal
 
 pub returns : goal.returns

@@ -1,5 +1,4 @@
 -- `with_row` meets its contract. Assumes nothing.
-use borrow.Author.Rules.{rules}
 use Rattle.traycalls.proofs.with_row.Goals as goal
 
 pub returns : goal.returns

@@ -2,7 +2,6 @@
 use mathlib.Core.Path.{ap}
 use Rattle.trays.specs.declared.Tray.{Tray}
 use Rattle.traytext.specs.Answers.{began}
-use borrow.Author.Rules.{rules}
 use Rattle.traylines.proofs.run_empty.Goals as goal
 
 pub returns : goal.returns

@@ -2,7 +2,6 @@
 use mathlib.Core.Path.{ap}
 use Rattle.trays.specs.Replies.{Judgement, judged}
 use Rattle.traytext.specs.Answers.{replied}
-use borrow.Author.Rules.{rules}
 use Rattle.traylines.proofs.run_verdict.Goals as goal
 
 pub returns : goal.returns

@@ -1,7 +1,6 @@
 -- `run_withdraw` meets its contract. Assumes nothing.
 use mathlib.Core.Path.{ap}
 use Rattle.traylines.specs.Running.{reply_of}
-use borrow.Author.Rules.{rules}
 use Rattle.traylines.proofs.run_withdraw.Goals as goal
 
 pub returns : goal.returns

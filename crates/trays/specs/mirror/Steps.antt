@@ -3,14 +3,14 @@
 --
 --   fresh              no rules and no board: zeros
 --   Outcome            the outcome of a call: its reply, and the state that it leaves
---   installOutcome, callOutcome   the outcome that the code's result stands for
---   installAnswer r    what is answered to an installation of the rule r, in any state
---   with_row t r, withColumn t r   the tray with r as that rule, the other rule as it was and no board
---   installOf t r next   the outcome of an installation of r, by the tray that it leaves if accepted
---   installRowOf, installColumnOf, openOf, deliverOf, withdrawOf   the outcomes of the calls that may
+--   install_outcome, call_outcome  the outcome that the code's result stands for
+--   install_answer r   what is answered to an installation of the rule r, in any state
+--   with_row t r, with_column t r  the tray with r as that rule, the other rule as it was and no board
+--   install_of t r next  the outcome of an installation of r, by the tray that it leaves if accepted
+--   install_row_of, install_column_of, open_of, deliver_of, withdraw_of  the outcomes of the calls that may
 --                                                                  change the state
 --   is_yes t            every row and every column of the rows held is accepted
---   verdictOf t        what the verdict says
+--   verdict_of t       what the verdict says
 --   step_of t c         the outcome of the call c on the state t
 use Rattle.std.specs.Prelude.{Bool, not, ◌||◌, List, ℕ, eqb}
 use Rattle.std.proofs.Math.Option.{Option, none, some}

@@ -4,17 +4,13 @@
 -- here on is what the whole block gives. A turn feeds one part: a line that goes on is kept
 -- (`turn_on`), one that ends is answered (`turn_answered`). The loop ends where the block is used up
 -- or the room is short.
-use Rattle.linetexts.proofs.Turns.{turn_forward, turn_on, turn_answered}
-use Rattle.linetexts.proofs.Gathering.{SoFar, begun, ended, at_over, gather_short, placed_within}
-use Rattle.linetexts.proofs.Ends.{came}
+use Rattle.linetexts.proofs.Gathering.{SoFar, ended}
 use Rattle.linetexts.specs.Beginnings.{state_of}
-use Rattle.linetexts.specs.Lists.{list_of, list_teller}
-use Rattle.traystream.specs.Texts.{tray_lines, tray_list}
+use Rattle.linetexts.specs.Lists.{list_of}
+use Rattle.traystream.specs.Texts.{tray_lines}
 use lib.ListN.{length}
-use Prim.Native.Nat.{◌-◌, ◌<◌}
-use native.Mathlib.Omega.{arith}
-use mathlib.Core.Path.{◌≡◌, refl, ◌∙◌}
-use borrow.Author.Rules.{rules}
+use Prim.Native.Nat.{◌-◌}
+use mathlib.Core.Path.{◌≡◌}
 use Rattle.traystream.proofs.gather.Given as goal
 
 abbrev pub invariant-loop-at : goal.invariant-loop-at

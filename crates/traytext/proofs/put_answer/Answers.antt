@@ -1,5 +1,4 @@
 -- `put_answer` meets its contract. Assumes nothing.
-use borrow.Author.Rules.{rules}
 use Rattle.traytext.proofs.put_answer.Goals as goal
 
 pub returns-in-Began : goal.returns-in-Began

@@ -1,5 +1,4 @@
 -- `put_call` meets its contract. Assumes nothing.
-use borrow.Author.Rules.{rules}
 use Rattle.traytext.proofs.put_call.Goals as goal
 
 pub returns-in-Accepted : goal.returns-in-Accepted

@@ -1,5 +1,4 @@
 -- `put_install` meets its contract. Assumes nothing.
-use borrow.Author.Rules.{rules}
 use Rattle.traytext.proofs.put_install.Goals as goal
 
 pub returns-in-Accepted : goal.returns-in-Accepted

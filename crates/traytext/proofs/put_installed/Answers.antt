@@ -1,7 +1,6 @@
 -- `put_installed` meets its contract. Assumes nothing.
 use native.Mathlib.Omega.{arith}
 use lib.ListN.{length-append}
-use borrow.Author.Rules.{rules}
 use Rattle.answers.proofs.Lengths.{byte_most, half_most}
 use Rattle.traytext.proofs.put_installed.Goals as goal
 

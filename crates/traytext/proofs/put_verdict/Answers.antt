@@ -1,5 +1,4 @@
 -- `put_verdict` meets its contract. Assumes nothing.
-use borrow.Author.Rules.{rules}
 use Rattle.traytext.proofs.put_verdict.Goals as goal
 
 pub returns-in-Waiting : goal.returns-in-Waiting

@@ -1,7 +1,6 @@
 -- `put_waiting` meets its contract. Assumes nothing.
 use native.Mathlib.Omega.{arith}
 use lib.ListN.{length-append}
-use borrow.Author.Rules.{rules}
 use Rattle.answers.proofs.Lengths.{byte_most}
 use Rattle.traytext.proofs.put_waiting.Goals as goal
 

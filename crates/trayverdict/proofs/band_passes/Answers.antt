@@ -1,11 +1,8 @@
 -- `band_passes` meets its contract: the rows that are left pass exactly when all do. Assumes nothing.
-use mathlib.Core.Path.{◌≡◌, refl, sym, ◌∙◌}
+use mathlib.Core.Path.{refl, sym, ◌∙◌}
 use Prim.Native.Nat.{◌+◌, ◌-◌, ◌*◌, ◌≤◌}
 use native.Mathlib.Omega.{arith}
 use lib.ListN.{length, drop}
-use borrow.Author.Rules.{rules}
-use borrow.Author.Tests.{not-true, not-false}
-use Rattle.trays.specs.Rows.{rows_of, rows_pass}
 use Rattle.trayverdict.proofs.Walks.{room_step, row_fails, row_passes, rows_done}
 use Rattle.trayverdict.proofs.band_passes.Goals.{In-loop-left}
 use Rattle.trayverdict.proofs.band_passes.Goals as goal

@@ -1,10 +1,9 @@
 -- `column_after` meets its contract: what is reached after the rows that are left is what all rows
 -- reach. Assumes nothing.
-use mathlib.Core.Path.{◌≡◌, refl, sym, ap, ◌∙◌}
-use Prim.Native.Nat.{ℕ, ◌+◌, ◌-◌, ◌*◌, ◌≤◌, ◌<◌}
+use mathlib.Core.Path.{refl, sym, ap, ◌∙◌}
+use Prim.Native.Nat.{ℕ, ◌+◌, ◌-◌, ◌*◌, ◌≤◌}
 use native.Mathlib.Omega.{arith}
 use lib.ListN.{length, drop}
-use borrow.Author.Rules.{rules}
 use Rattle.automaton.specs.Successor.{after}
 use Rattle.trays.specs.Rows.{rows_of, column_of}
 use Rattle.trayverdict.proofs.Walks.{room_step, event_step, column_done}

@@ -1,12 +1,8 @@
 -- `column_set` meets its contract: the set after the bands before p. Assumes nothing.
 use mathlib.Core.Path.{◌≡◌, refl}
-use Prim.Native.Nat.{◌-◌, ◌≤◌}
 use native.Mathlib.Omega.{arith}
 use lib.ListN.{length}
-use borrow.Author.Rules.{rules}
-use Rattle.automaton.specs.Successor.{after}
 use Rattle.trays.specs.Rows.{rows_up_to, column_of}
-use Rattle.trays.specs.Boards.{band_in}
 use Rattle.trayverdict.proofs.Walks.{column_on, band_fits}
 use Rattle.trayverdict.proofs.column_set.Goals as goal
 

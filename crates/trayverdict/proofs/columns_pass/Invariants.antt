@@ -1,13 +1,9 @@
 -- `columns_pass` meets its contract: the columns before c pass. Assumes nothing.
-use mathlib.Core.Path.{◌≡◌, refl, sym}
+use mathlib.Core.Path.{◌≡◌}
 use mathlib.Core.Bool.{true}
 use Prim.Native.Nat.{◌-◌, ◌≤◌}
-use native.Mathlib.Omega.{arith}
-use borrow.Author.Rules.{rules}
-use borrow.Author.Tests.{not-true, not-false}
 use Rattle.trays.specs.Rows.{rows_up_to, columns_pass}
 use Rattle.trays.specs.Boards.{band_in}
-use Rattle.trayverdict.proofs.Walks.{columns_more, columns_fail}
 use Rattle.trayverdict.proofs.columns_pass.Given as goal
 
 abbrev pub invariant-loop-c : goal.invariant-loop-c

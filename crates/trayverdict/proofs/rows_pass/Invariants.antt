@@ -1,14 +1,9 @@
 -- `rows_pass` meets its contract: the rows of the bands before p pass. Assumes nothing.
-use mathlib.Core.Path.{◌≡◌, refl, sym, ◌∙◌}
+use mathlib.Core.Path.{◌≡◌}
 use mathlib.Core.Bool.{true}
 use Prim.Native.Nat.{◌-◌, ◌≤◌}
-use native.Mathlib.Omega.{arith}
-use lib.ListN.{length}
-use borrow.Author.Rules.{rules}
-use borrow.Author.Tests.{not-true, not-false}
 use Rattle.trays.specs.Rows.{rows_up_to, rows_pass}
 use Rattle.trays.specs.Boards.{band_in}
-use Rattle.trayverdict.proofs.Walks.{pass_more, pass_fails, band_fits}
 use Rattle.trayverdict.proofs.rows_pass.Given as goal
 
 abbrev pub invariant-loop-p : goal.invariant-loop-p

@@ -1,10 +1,9 @@
 -- `set_after` meets its contract: what is reached after the rest of the text is what the whole text
 -- reaches. Assumes nothing.
-use mathlib.Core.Path.{◌≡◌, refl, sym, ap, ◌∙◌}
-use Prim.Native.Nat.{ℕ, ◌+◌, ◌-◌, ◌≤◌}
+use mathlib.Core.Path.{refl, sym, ap, ◌∙◌}
+use Prim.Native.Nat.{ℕ, ◌+◌}
 use native.Mathlib.Omega.{arith}
-use lib.ListN.{length, drop}
-use borrow.Author.Rules.{rules}
+use lib.ListN.{drop}
 use Rattle.automaton.specs.Successor.{after}
 use Rattle.trayverdict.proofs.Walks.{text-step, text_done}
 use Rattle.trayverdict.proofs.set_after.Goals as goal

@@ -1,12 +1,9 @@
 -- `set_after` meets its contract: what is reached after the rest of the text is what the whole text
 -- reaches. Assumes nothing.
-use mathlib.Core.Path.{◌≡◌, refl, sym, ap, ◌∙◌}
-use Prim.Native.Nat.{ℕ, ◌+◌, ◌-◌, ◌≤◌}
-use native.Mathlib.Omega.{arith}
+use mathlib.Core.Path.{◌≡◌}
+use Prim.Native.Nat.{◌-◌, ◌≤◌}
 use lib.ListN.{length, drop}
-use borrow.Author.Rules.{rules}
 use Rattle.automaton.specs.Successor.{after}
-use Rattle.trayverdict.proofs.Walks.{text-step, text_done}
 use Rattle.trayverdict.proofs.set_after.Given as goal
 
 abbrev pub invariant-loop-i : goal.invariant-loop-i

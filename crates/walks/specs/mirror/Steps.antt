@@ -1,9 +1,9 @@
 -- A walk over bytes by any step f: from a number i by the byte b to the number f i b, byte after
 -- byte. The numbers stand for sets; any number from `empty` on stands for the empty set.
 --
---   endBy f i w            where the bytes w lead from i
---   countBy f empty i w    how many of the steps lead to a set that is not empty
---   lookedBy f empty i w   for how many of the bytes w a step is looked up: as long as the set is
+--   end_by f i w           where the bytes w lead from i
+--   count_by f empty i w   how many of the steps lead to a set that is not empty
+--   looked_by f empty i w  for how many of the bytes w a step is looked up: as long as the set is
 --                          not empty
 use Rattle.std.specs.Prelude.{cond, ℕ, suc, ◌+◌, ltb}
 use mathlib.Core.List.{List, [], ◌∷◌, foldl}

@@ -1,13 +1,11 @@
 -- `fill_words` meets its contract. The loop's invariant: the numbers passed are stored, and zeros
 -- stand behind them. Assumes nothing.
-use mathlib.Core.Path.{◌≡◌, refl, ◌∙◌}
-use Prim.Native.Nat.{◌*◌, ◌-◌, ◌%◌, ◌≤◌}
+use mathlib.Core.Path.{refl, ◌∙◌}
 use native.Mathlib.Omega.{arith}
 use lib.ListN.{length, length-set}
-use Rattle.forms.proofs.Filling.{Filled, filled_none, fill_more}
+use Rattle.forms.proofs.Filling.{filled_none, fill_more}
 use Rattle.wordfields.specs.Words.{word_at}
 use Rattle.wordfields.proofs.Words.{all_words}
-use borrow.Author.Rules.{rules}
 use Rattle.wordfields.proofs.fill_words.Goals as goal
 
 pub loop-i-init : goal.loop-i-init

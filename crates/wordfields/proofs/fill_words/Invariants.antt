@@ -1,13 +1,10 @@
 -- `fill_words` meets its contract. The loop's invariant: the numbers passed are stored, and zeros
 -- stand behind them. Assumes nothing.
-use mathlib.Core.Path.{◌≡◌, refl, ◌∙◌}
+use mathlib.Core.Path.{◌≡◌}
 use Prim.Native.Nat.{◌*◌, ◌-◌, ◌%◌, ◌≤◌}
-use native.Mathlib.Omega.{arith}
-use lib.ListN.{length, length-set}
-use Rattle.forms.proofs.Filling.{Filled, filled_none, fill_more}
+use lib.ListN.{length}
+use Rattle.forms.proofs.Filling.{Filled}
 use Rattle.wordfields.specs.Words.{word_at}
-use Rattle.wordfields.proofs.Words.{all_words}
-use borrow.Author.Rules.{rules}
 use Rattle.wordfields.proofs.fill_words.Given as goal
 
 abbrev pub invariant-loop-i : goal.invariant-loop-i
