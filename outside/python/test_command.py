@@ -415,7 +415,9 @@ class NoWrongYes(Case):
         environment = dict(os.environ, PYTHONDONTWRITEBYTECODE="1", PYTHONPATH=str(HERE))
         program = [sys.executable, "-m", "bellbadger", *words]
         pipes = {"stdin": subprocess.PIPE, "stdout": subprocess.PIPE, "stderr": subprocess.PIPE}
-        return subprocess.Popen(program, cwd=self.folder, env=environment, **pipes)
+        # a gate that runs in the background has its children pass an interrupt over
+        heed = lambda: signal.signal(signal.SIGINT, signal.SIG_DFL)
+        return subprocess.Popen(program, cwd=self.folder, env=environment, preexec_fn=heed, **pipes)
 
     def test_killed(self):
         """By a signal it says nothing, and its status is no 0 and no 1."""
