@@ -19,13 +19,14 @@
  * Stack: judges and their like go by value, and a chunk with idle marks is packed on the stack. A thread
  * that calls these functions should have 1 MB. Beside what the caller keeps, a judge of 28 KB and results
  * with one in them, a call takes at most, with the copies of its arguments,
- *   480 KB  bellbadger_replay
- *   350 KB  bellbadger_load
- *   290 KB  bellbadger_install
+ *   440 KB  bellbadger_replay
+ *   310 KB  bellbadger_load
+ *   275 KB  bellbadger_install
  *   235 KB  bellbadger_deliver
- *   190 KB  bellbadger_tray_install_row, bellbadger_tray_install_column, bellbadger_merge_reduced, bellbadger_withdraw
- *   165 KB  bellbadger_locate, bellbadger_reduce
- *   140 KB  bellbadger_summarize
+ *   165 KB  bellbadger_locate
+ *   150 KB  bellbadger_merge_reduced, bellbadger_summarize
+ *   150 KB  bellbadger_tray_install_row, bellbadger_tray_install_column
+ *   125 KB  bellbadger_withdraw, bellbadger_reduce
  *   115 KB  bellbadger_save, bellbadger_profile_run
  *   85 KB  any other function
  */

@@ -12,11 +12,9 @@ pub fn put_line(out: &mut [u8], at: usize, word: &[u8], numbers: &[u64]) -> usiz
     ensures { Wrote out.old at (line_of word.now numbers.now) out.new result }
 {
     let mut end = text::put_bytes(out, at, word);
-    let mut i: usize = 0;
-    while i < numbers.len() {
+    for number in numbers {
         end = text::put_byte(out, end, b' ');
-        end = text::put_decimal(out, end, numbers[i]);
-        i += 1;
+        end = text::put_decimal(out, end, *number);
     }
     text::put_byte(out, end, b'\n')
 }

@@ -61,8 +61,7 @@ fn share(rows: [usize; limits::STATES]) -> Sharing
     let mut of = [0usize; limits::STATES];
     let mut hints = [0u8; limits::CLASSES];
     let mut used = lanes::LANES;
-    let mut j: usize = 0;
-    while j < limits::STATES {
+    for j in 0..limits::STATES {
         let row = rows[j];
         let set = row / limits::SYMBOLS;
         let hint = small(hints[set]);
@@ -73,20 +72,12 @@ fn share(rows: [usize; limits::STATES]) -> Sharing
             used += 1;
         }
         of[j] = k;
-        j += 1;
     }
     Sharing { lane, of, used }
 }
 
-// The greater of two numbers.
-fn greater(a: usize, b: usize) -> usize
-    ensures { result ≡ max a b }
-{
-    if a < b { b } else { a }
-}
-
-// The lanes in use over the bytes, eight at a time; answers for how many bytes a successor is
-// looked up.
+// The lanes in use over the bytes, eight at a time, where a range would go by ones; answers for how
+// many bytes a successor is looked up.
 fn walk_lanes(t: &[u16], part: &[u8], lane: &mut [usize], used: usize) -> usize
     requires { RowTable t.now × InUse lane.old used }
     ensures value { result ≡ rows_looked t.now part.now lane.old lane_room }
@@ -97,7 +88,7 @@ fn walk_lanes(t: &[u16], part: &[u8], lane: &mut [usize], used: usize) -> usize
     while from < used {
         let end = from + lanes::LANES;
         let n = lanes::walk_eight(t, part, &mut lane[from..end]);
-        looked = greater(looked, n);
+        looked = looked.max(n);
         from = end;
     }
     looked
@@ -109,16 +100,14 @@ fn count_of(t: &[u16], part: &[u8], from: usize) -> usize
     ensures { result ≡ row_count t.now part.now from }
 {
     let mut row = from;
-    let mut i: usize = 0;
-    while i < part.len() {
+    for i in 0..part.len() {
         let symbol = (part[i] % limits::MOST_SYMBOLS) as usize;
         row = lanes::offset(t[symbol + row]);
         if row >= lanes::EMPTY_ROW {
             return i;
         }
-        i += 1;
     }
-    i
+    part.len()
 }
 
 // What a run counts over the bytes that lead it to the row offset `end`: each of them where it
@@ -148,10 +137,8 @@ fn tally(
     ensures { result ≡ rows_count t.now part.now from.now lane_room }
 {
     let mut counts = [0usize; ROOM];
-    let mut k: usize = 0;
-    while k < used {
+    for k in 0..used {
         counts[k] = spent(t, part, from[k], end[k]);
-        k += 1;
     }
     counts
 }
@@ -162,11 +149,9 @@ fn pick(of: &[usize; limits::STATES], list: &[usize; ROOM]) -> [usize; limits::S
     ensures { result ≡ pick_of of.now list.now }
 {
     let mut out = [0usize; limits::STATES];
-    let mut j: usize = 0;
-    while j < limits::STATES {
+    for j in 0..limits::STATES {
         let k = of[j];
         out[j] = list[k];
-        j += 1;
     }
     out
 }
@@ -201,10 +186,8 @@ fn then(x: Walked, y: Walked) -> Walked
     let first = x.counts;
     let second = y.counts;
     let mut counts = [0usize; limits::STATES];
-    let mut j: usize = 0;
-    while j < limits::STATES {
+    for j in 0..limits::STATES {
         counts[j] = first[j] + second[j];
-        j += 1;
     }
     Walked {
         rows,
@@ -233,10 +216,7 @@ fn clipped(i: usize, d: usize, n: usize) -> usize
     requires { (i < n) × (0 < d) }
     ensures { (i < result) × (result ≤ n) }
 {
-    if d < n - i {
-        return i + d;
-    }
-    n
+    i + d.min(n - i)
 }
 
 // The runs before the first byte.

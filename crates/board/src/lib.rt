@@ -2,8 +2,8 @@
 // 64 counts as 64.
 #![tactic(auto)]
 
-ghost use Rattle.std.specs.Prelude.{◌≡◌, ◌+◌, ◌≤◌, ◌<◌, min, cond, eqb, ltb, length, get_or, set};
-ghost use Rattle.limits.specs.Limits.{most_places, end_cells};
+ghost use Rattle.std.specs.Prelude.{◌≡◌, ◌+◌, ◌≤◌, ◌<◌, min, cond, eqb, ltb, get_or, set};
+ghost use Rattle.limits.specs.Limits.{most_places};
 ghost use Rattle.base.specs.Totals.{total};
 ghost use Rattle.board.specs.Boards.{empty_board, row_set, cleared_at};
 
@@ -21,19 +21,11 @@ pub struct Board {
     pub ends: [u32; limits::ENDS],
 }
 
-// An array has its length: this only says so, and is compiled to nothing.
-fn cells(ends: &[u32; limits::ENDS]) -> usize
-    ensures { length ends.now ≡ end_cells }
-{
-    let s: &[u32] = ends;
-    s.len()
-}
-
 // The number of places.
 pub fn places_of(places: u8) -> usize
     ensures { result ≡ min places most_places }
 {
-    base::at_most_u8(places, limits::MOST_PLACES) as usize
+    places.min(limits::MOST_PLACES) as usize
 }
 
 // A board with all places empty.
@@ -60,24 +52,13 @@ pub fn set_row(ends: &mut [u32; limits::ENDS], place: usize, row: &[u32; limits:
     requires { place < most_places }
     ensures { ends.new ≡ row_set ends.old place (λ q. get_or row.now q 0) }
 {
-    cells(ends);
-    let mut q: usize = 0;
-    while q < limits::STATES {
-        ends[place * limits::STATES + q] = row[q];
-        q += 1;
+    for (q, mask) in row.iter().enumerate() {
+        ends[place * limits::STATES + q] = *mask;
     }
 }
 
-// The mark of the place is set.
-pub fn set_mark(filled: &mut [u8; limits::PLACES], place: usize, mark: u8)
-    requires { place < most_places }
-    ensures { filled.new ≡ set filled.old place mark }
-{
-    filled[place] = mark;
-}
-
-// A number of the place, its count or its length, is set.
-pub fn set_number(numbers: &mut [u32; limits::PLACES], place: usize, number: u32)
+// The mark of the place, its count or its length is set.
+pub fn set_number<T: Copy>(numbers: &mut [T; limits::PLACES], place: usize, number: T)
     requires { place < most_places }
     ensures { numbers.new ≡ set numbers.old place number }
 {
@@ -123,18 +104,16 @@ pub fn comes_late(revisions: &[u64; limits::PLACES], place: usize, revision: u32
     (revision as u64) < revisions[place]
 }
 
-// How many of the first n marks say empty.
-fn count_empty(filled: &[u8; limits::PLACES], n: usize) -> u8
-    requires { n ≤ most_places }
+// How many of the first n marks say empty, of a board's places or of a tray's bands.
+pub fn count_empty<const N: usize>(filled: &[u8; N], n: usize) -> u8
+    requires { (n ≤ N) × (N < 256) }
     ensures { result ≡ total (λ p. cond (eqb (get_or filled.now p 0) 0) 1 0) n }
 {
     let mut empty: u8 = 0;
-    let mut p: usize = 0;
-    while p < n {
+    for p in 0..n {
         if filled[p] == 0 {
             empty += 1;
         }
-        p += 1;
     }
     empty
 }
@@ -159,10 +138,8 @@ fn sum_up(numbers: &[u32; limits::PLACES], n: usize) -> u64
     ensures { result ≡ total (λ p. get_or numbers.now p 0) n }
 {
     let mut sum: u64 = 0;
-    let mut p: usize = 0;
-    while p < n {
+    for p in 0..n {
         sum += wide(numbers[p]);
-        p += 1;
     }
     sum
 }

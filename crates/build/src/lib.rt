@@ -5,7 +5,7 @@ ghost use Rattle.std.specs.Prelude.{◌≡◌};
 ghost use Rattle.build.specs.mirror.Building.{no_built, build_outcome, build_of};
 
 use automaton::Rule;
-use subsets::Numbering;
+use base::Refusal;
 
 // A rule that is built. startcount is M; singles has the number of {q} for each state q. Any cell
 // of next or singles at or above 512 reads as the empty set, any cell of delegates at or above 32
@@ -23,20 +23,6 @@ pub struct Built {
     pub singles: [u16; limits::STATES],
     pub sets: [u32; limits::SETS],
     pub next: [u16; limits::CELLS],
-}
-
-// The number of sets and M, or a refusal.
-#[derive(Clone, Copy)]
-pub enum BuildAnswer {
-    Accepted(u16, u8),
-    Refused(u8),
-}
-
-// An answer with the built rule beside it, which is all zeros where the rule is refused.
-#[derive(Clone, Copy)]
-pub struct BuildResult {
-    pub answer: BuildAnswer,
-    pub built: Built,
 }
 
 // Zeros in every field.
@@ -61,43 +47,32 @@ pub fn nothing_built() -> Built
     }
 }
 
-// The rule built, or a refusal with 9 where it has more than 512 sets. Any value is taken, also one
-// that no file gives.
-pub fn build_rule(rule: Rule) -> BuildResult
+// The rule built, or refused where it has more than 512 sets (9). Any value is taken, also one that
+// no file gives.
+pub fn build_rule(rule: Rule) -> Result<Built, Refusal>
     ensures { build_outcome result ≡ build_of rule }
 {
     let n = rule.n;
     let k = rule.k;
     let finals = rule.finals;
-    let table = subsets::number_sets(&rule.targets, n, k);
-    let numbered = table.answer;
-    match numbered {
-        Numbering::Whole(count) => {
-            let sets = table.sets;
-            let next = table.next;
-            let singles = table.singles;
-            let merged = delegates::merge_starts(&sets, &next, &singles, finals, n, k);
-            let delegates = merged.delegates;
-            let startcount = merged.startcount;
-            let built = Built {
-                n: base::at_most_u8(n, limits::MOST_STATES),
-                k: base::at_most_u8(k, limits::MOST_SYMBOLS),
-                startcount,
-                setcount: count as u16,
-                initials: rule.initials,
-                finals,
-                delegates,
-                singles,
-                sets,
-                next,
-            };
-            let answer = BuildAnswer::Accepted(count as u16, startcount);
-            BuildResult { answer, built }
-        }
-        Numbering::Over => {
-            let built = nothing_built();
-            let answer = BuildAnswer::Refused(9);
-            BuildResult { answer, built }
-        }
-    }
+    let Some(table) = subsets::number_sets(&rule.targets, n, k) else {
+        return Err(Refusal::TooManySets);
+    };
+    let sets = table.sets;
+    let next = table.next;
+    let singles = table.singles;
+    let merged = delegates::merge_starts(&sets, &next, &singles, finals, n, k);
+    let delegates = merged.delegates;
+    Ok(Built {
+        n: n.min(limits::MOST_STATES),
+        k: k.min(limits::MOST_SYMBOLS),
+        startcount: merged.startcount,
+        setcount: table.count as u16,
+        initials: rule.initials,
+        finals,
+        delegates,
+        singles,
+        sets,
+        next,
+    })
 }

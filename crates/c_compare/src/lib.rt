@@ -7,7 +7,7 @@ ghost use Rattle.compare.specs.Search.{compare_of};
 ghost use Rattle.c_compare.specs.Numbers.{comparison_shown};
 
 use automaton::Rule;
-use compare::{CompareAnswer, Which};
+use compare::Which;
 
 // Kind is 0 where the two are refused, and refused has the number; 10 where the first rule alone
 // accepts the text, of so many bytes, with zeros after it; 11 where the second alone does; 12 where
@@ -26,36 +26,38 @@ pub struct CompareNumbers {
 pub fn bellbadger_compare(one: Rule, two: Rule) -> CompareNumbers
     ensures { result ≡ comparison_shown (outcome_of (compare_of one two)) }
 {
-    let result = compare::compare(one, two);
-    let answer = result.answer;
-    let length = result.length as u16;
-    let text = result.text;
-    match answer {
-        CompareAnswer::Refused(refused) => CompareNumbers {
-            kind: 0,
-            refused,
-            length,
-            text,
-        },
-        CompareAnswer::Apart(which) => match which {
-            Which::First => CompareNumbers {
-                kind: 10,
-                refused: 0,
-                length,
+    match compare::compare(one, two) {
+        Err(refusal) => {
+            let text = [0u8; searches::LONGEST];
+            CompareNumbers {
+                kind: 0,
+                refused: refusal.number(),
+                length: 0,
                 text,
-            },
-            Which::Second => CompareNumbers {
-                kind: 11,
+            }
+        }
+        Ok(Some(apart)) => {
+            let spelled = apart.text;
+            let text = spelled.text;
+            let kind = match apart.which {
+                Which::First => 10,
+                Which::Second => 11,
+            };
+            CompareNumbers {
+                kind,
                 refused: 0,
-                length,
+                length: spelled.length as u16,
                 text,
-            },
-        },
-        CompareAnswer::Same => CompareNumbers {
-            kind: 12,
-            refused: 0,
-            length,
-            text,
-        },
+            }
+        }
+        Ok(None) => {
+            let text = [0u8; searches::LONGEST];
+            CompareNumbers {
+                kind: 12,
+                refused: 0,
+                length: 0,
+                text,
+            }
+        }
     }
 }

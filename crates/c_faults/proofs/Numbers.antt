@@ -1,12 +1,7 @@
--- The numbers of each case of an answer are those of what it says; and they are read back. Assumes
--- nothing.
-use mathlib.Core.Path.{◌≡◌, refl, sym, ap, ◌∙◌}
-use Rattle.faults.specs.declared.TrayFault.{TrayFault}
-use Rattle.faults.specs.Faulting.{Finding, refused_as, row_at, column_at, short_at, open_with, fault_means}
+-- The numbers are read back. Assumes nothing.
+use mathlib.Core.Path.{◌≡◌, refl}
+use Rattle.faults.specs.Faulting.{Finding, refused_as, row_at, column_at, short_at, open_with}
 use Rattle.c_faults.specs.Numbers.{fault_shown, fault_read_back, Claims}
-
-pub fault_shown_lem : (t : TrayFault) (f : Finding) → fault_means t ≡ f → (a : TrayFault) → t ≡ a → fault_shown (fault_means a) ≡ fault_shown f
-fault_shown_lem t f is a e = ap fault_shown (sym (ap fault_means e) ∙ is)
 
 fault_back : (f : Finding) → fault_read_back (fault_shown f) ≡ f
 fault_back (refused_as x) = refl

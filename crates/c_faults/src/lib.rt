@@ -25,37 +25,36 @@ pub struct FaultNumbers {
 pub fn bellbadger_tray_fault(tray: Tray) -> FaultNumbers
     ensures { result ≡ fault_shown (fault_of tray) }
 {
-    let answer = faults::fault(tray);
-    match answer {
-        TrayFault::Refused(number) => FaultNumbers {
+    match faults::fault(tray) {
+        Err(refusal) => FaultNumbers {
             kind: 0,
-            number,
+            number: refusal.number(),
             column: 0,
             band: 0,
             row: 0,
         },
-        TrayFault::Row(band, row) => FaultNumbers {
+        Ok(TrayFault::Row { band, row }) => FaultNumbers {
             kind: 7,
             number: 0,
             column: 0,
             band,
             row,
         },
-        TrayFault::Column(column, band, row) => FaultNumbers {
+        Ok(TrayFault::Column { column, band, row }) => FaultNumbers {
             kind: 8,
             number: 0,
             column,
             band,
             row,
         },
-        TrayFault::Short(column) => FaultNumbers {
+        Ok(TrayFault::Short(column)) => FaultNumbers {
             kind: 9,
             number: 0,
             column,
             band: 0,
             row: 0,
         },
-        TrayFault::Open(number) => FaultNumbers {
+        Ok(TrayFault::Open(number)) => FaultNumbers {
             kind: 6,
             number,
             column: 0,

@@ -3,11 +3,13 @@
 #![tactic(auto)]
 
 ghost use Rattle.std.specs.Prelude.{◌≡◌};
-ghost use Rattle.follow.specs.Following.{lost_means, follow_outcome, follow_of, follow_by_of, prepare_of};
+ghost use Rattle.base.specs.Options.{option_of};
+ghost use Rattle.follow.specs.Following.{follow_outcome, follow_of, follow_by_of, prepare_of};
 ghost use Rattle.c_follow.specs.Numbers.{lost_flag, at_by, follow_shown, prepare_shown};
 
 use automaton::Rule;
-use follow::{Followed, Follower, Lost};
+use base::Refusal;
+use follow::{Followed, Follower};
 
 // Accepted is 1 or 0; where it is 0, refused has the number, and every other field is 0. Ends is 1
 // where a final state is in the set. Lost is 1 where no final state can be reached any more, and at has
@@ -39,44 +41,49 @@ pub struct FollowerNumbers {
 // How many bytes a follower has as C lays it out.
 const FOLLOWER_SIZE: usize = 2064;
 
-fn lost_flag(lost: Lost) -> u8
-    ensures { result ≡ lost_flag (lost_means lost) }
+fn lost_flag(lost: Option<u32>) -> u8
+    ensures { result ≡ lost_flag (option_of lost) }
 {
     match lost {
-        Lost::Never => 0,
-        Lost::At(_) => 1,
+        None => 0,
+        Some(_) => 1,
     }
 }
 
-fn lost_at(lost: Lost) -> u32
-    ensures { result ≡ at_by (lost_means lost) }
+fn lost_at(lost: Option<u32>) -> u32
+    ensures { result ≡ at_by (option_of lost) }
 {
     match lost {
-        Lost::Never => 0,
-        Lost::At(at) => at,
+        None => 0,
+        Some(at) => at,
     }
 }
 
 // What following answered, in numbers.
-fn in_numbers(followed: Followed) -> FollowNumbers
-    ensures { result ≡ follow_shown (follow_outcome followed) }
+fn in_numbers(answer: Result<Followed, Refusal>) -> FollowNumbers
+    ensures { result ≡ follow_shown (follow_outcome answer) }
 {
-    let answer = followed.answer;
-    let shown = flags::shown(answer);
-    let way = followed.lost;
-    let ends = flags::bit(followed.ends);
-    let complete = flags::bit(followed.complete);
-    let lost = lost_flag(way);
-    let at = lost_at(way);
-    FollowNumbers {
-        accepted: shown.accepted,
-        refused: shown.refused,
-        ends,
-        lost,
-        at,
-        set: followed.set,
-        expected: followed.expected,
-        complete,
+    match answer {
+        Ok(followed) => FollowNumbers {
+            accepted: 1,
+            refused: 0,
+            ends: flags::bit(followed.ends),
+            lost: lost_flag(followed.lost),
+            at: lost_at(followed.lost),
+            set: followed.set,
+            expected: followed.expected,
+            complete: flags::bit(followed.complete),
+        },
+        Err(refusal) => FollowNumbers {
+            accepted: 0,
+            refused: refusal.number(),
+            ends: 0,
+            lost: 0,
+            at: 0,
+            set: 0,
+            expected: 0,
+            complete: 0,
+        },
     }
 }
 
@@ -98,14 +105,21 @@ pub fn bellbadger_follower_size() -> usize
 pub fn bellbadger_follower_prepare(rule: Rule) -> FollowerNumbers
     ensures { result ≡ prepare_shown (prepare_of rule) }
 {
-    let prepared = follow::prepare(rule);
-    let answer = prepared.answer;
-    let shown = flags::shown(answer);
-    let follower = prepared.follower;
-    FollowerNumbers {
-        accepted: shown.accepted,
-        refused: shown.refused,
-        follower,
+    match follow::prepare(rule) {
+        Ok(follower) => FollowerNumbers {
+            accepted: 1,
+            refused: 0,
+            follower,
+        },
+        Err(refusal) => {
+            let rule = rulefile::no_rule();
+            let follower = Follower { rule, live: 0 };
+            FollowerNumbers {
+                accepted: 0,
+                refused: refusal.number(),
+                follower,
+            }
+        }
     }
 }
 

@@ -31,14 +31,20 @@ pub struct TableNumbers {
 pub fn bellbadger_form(judge: Judge) -> FormNumbers
     ensures { result ≡ form_shown (made_of judge) }
 {
-    let made = formmaker::make_form(judge);
-    let answer = made.answer;
-    let shown = flags::shown(answer);
-    let form = made.form;
-    FormNumbers {
-        accepted: shown.accepted,
-        refused: shown.refused,
-        form,
+    match formmaker::make_form(judge) {
+        Ok(form) => FormNumbers {
+            accepted: 1,
+            refused: 0,
+            form,
+        },
+        Err(refusal) => {
+            let form = formmaker::no_form();
+            FormNumbers {
+                accepted: 0,
+                refused: refusal.number(),
+                form,
+            }
+        }
     }
 }
 
@@ -46,13 +52,19 @@ pub fn bellbadger_form(judge: Judge) -> FormNumbers
 pub fn bellbadger_form_back(form: Form) -> TableNumbers
     ensures { result ≡ table_shown (back_of form) }
 {
-    let back = formback::table_of(form);
-    let answer = back.answer;
-    let shown = flags::shown(answer);
-    let table = back.table;
-    TableNumbers {
-        accepted: shown.accepted,
-        refused: shown.refused,
-        table,
+    match formback::table_of(form) {
+        Ok(table) => TableNumbers {
+            accepted: 1,
+            refused: 0,
+            table,
+        },
+        Err(refusal) => {
+            let table = formback::no_table();
+            TableNumbers {
+                accepted: 0,
+                refused: refusal.number(),
+                table,
+            }
+        }
     }
 }

@@ -8,7 +8,6 @@ ghost use Rattle.c_losses.specs.Numbers.{diagnosis_shown, spot_shown};
 
 use calls::Judge;
 use diagnoses::Diagnosis;
-use locating::Located;
 
 // Kind 0: refused with the number; 5: lost at the place of that number; 6: open, with that many
 // places.
@@ -38,24 +37,25 @@ fn wide(number: u8) -> u32
 pub fn bellbadger_diagnose(judge: Judge) -> DiagnosisNumbers
     ensures { result ≡ diagnosis_shown (diagnosis_of judge) }
 {
-    let answer = diagnoses::diagnose(judge);
-    match answer {
-        Diagnosis::Refused(number) => DiagnosisNumbers { kind: 0, number },
-        Diagnosis::Lost(number) => DiagnosisNumbers { kind: 5, number },
-        Diagnosis::Open(number) => DiagnosisNumbers { kind: 6, number },
+    match diagnoses::diagnose(judge) {
+        Ok(Diagnosis::Lost(number)) => DiagnosisNumbers { kind: 5, number },
+        Ok(Diagnosis::Open(number)) => DiagnosisNumbers { kind: 6, number },
+        Err(refusal) => DiagnosisNumbers {
+            kind: 0,
+            number: refusal.number(),
+        },
     }
 }
 
 pub fn bellbadger_locate(judge: Judge, place: usize, chunk: &[u8]) -> SpotNumbers
     ensures { result ≡ spot_shown (spot_of judge place chunk.now) }
 {
-    let answer = locating::locate(judge, place, chunk);
-    match answer {
-        Located::Refused(number) => SpotNumbers {
+    match locating::locate(judge, place, chunk) {
+        Ok(Some(number)) => SpotNumbers { kind: 5, number },
+        Ok(None) => SpotNumbers { kind: 6, number: 0 },
+        Err(refusal) => SpotNumbers {
             kind: 0,
-            number: wide(number),
+            number: wide(refusal.number()),
         },
-        Located::After(number) => SpotNumbers { kind: 5, number },
-        Located::Nowhere => SpotNumbers { kind: 6, number: 0 },
     }
 }

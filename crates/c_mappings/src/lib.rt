@@ -10,7 +10,7 @@ ghost use Rattle.c_mappings.specs.Numbers.{build_shown, run_shown, mapping_shown
 
 use automaton::Rule;
 use mappings::Mapping;
-use profile::{BuildAnswer, Profile};
+use profile::Profile;
 
 // Accepted is 1 or 0; where it is 0, refused has the number, and every number of the profile is 0.
 // How many mappings there are stands in the profile.
@@ -45,20 +45,20 @@ pub fn bellbadger_profile_size() -> usize
 pub fn bellbadger_profile_build(rule: Rule) -> BuildNumbers
     ensures { result ≡ build_shown (build_of rule) }
 {
-    let built = profile::build(rule);
-    let answer = built.answer;
-    let profile = built.profile;
-    match answer {
-        BuildAnswer::Accepted(count) => BuildNumbers {
+    match profile::build(rule) {
+        Ok(profile) => BuildNumbers {
             accepted: 1,
             refused: 0,
             profile,
         },
-        BuildAnswer::Refused(refused) => BuildNumbers {
-            accepted: 0,
-            refused,
-            profile,
-        },
+        Err(refusal) => {
+            let profile = profile::nothing_built();
+            BuildNumbers {
+                accepted: 0,
+                refused: refusal.number(),
+                profile,
+            }
+        }
     }
 }
 
@@ -66,14 +66,20 @@ pub fn bellbadger_profile_build(rule: Rule) -> BuildNumbers
 pub fn bellbadger_profile_run(profile: Profile, chunk: &[u8]) -> RunNumbers
     ensures { result ≡ run_shown (run_of profile chunk.now) }
 {
-    let ran = profile::run(profile, chunk);
-    let answer = ran.answer;
-    let shown = flags::shown(answer);
-    let mapping = ran.mapping;
-    RunNumbers {
-        accepted: shown.accepted,
-        refused: shown.refused,
-        mapping,
+    match profile::run(profile, chunk) {
+        Ok(mapping) => RunNumbers {
+            accepted: 1,
+            refused: 0,
+            mapping,
+        },
+        Err(refusal) => {
+            let masks = [0u8; mappings::STATES];
+            RunNumbers {
+                accepted: 0,
+                refused: refusal.number(),
+                mapping: Mapping { masks },
+            }
+        }
     }
 }
 

@@ -6,7 +6,7 @@ ghost use Rattle.merging.specs.Merging.{way_of, merge_outcome, merge_of};
 ghost use Rattle.c_merge.specs.Numbers.{merge_shown};
 
 use automaton::Rule;
-use merging::MergeResult;
+use base::Refusal;
 
 // Accepted is 1 or 0; where it is 0, refused has the number, and every number of the rule is 0.
 #[repr(C)]
@@ -18,16 +18,23 @@ pub struct MergeNumbers {
 }
 
 // What merging comes to, in the numbers that C is given.
-pub fn in_numbers(merging: MergeResult) -> MergeNumbers
+pub fn in_numbers(merging: Result<Rule, Refusal>) -> MergeNumbers
     ensures { result ≡ merge_shown (merge_outcome merging) }
 {
-    let answer = merging.answer;
-    let shown = flags::shown(answer);
-    let rule = merging.rule;
-    MergeNumbers {
-        accepted: shown.accepted,
-        refused: shown.refused,
-        rule,
+    match merging {
+        Ok(rule) => MergeNumbers {
+            accepted: 1,
+            refused: 0,
+            rule,
+        },
+        Err(refusal) => {
+            let rule = rulefile::no_rule();
+            MergeNumbers {
+                accepted: 0,
+                refused: refusal.number(),
+                rule,
+            }
+        }
     }
 }
 

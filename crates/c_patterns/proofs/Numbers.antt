@@ -1,17 +1,17 @@
 -- A result in numbers, from what reading a pattern answers. Assumes nothing.
+use Rattle.std.proofs.Common.{Ok}
 use mathlib.Core.Path.{◌≡◌, refl, ap}
 use mathlib.Core.List.{List}
 use mathlib.Core.Option.{Option, none, some}
 use Prim.Native.Nat.{ℕ, ◌≤◌}
 use Rattle.rulewriter.specs.Written.{Writing}
-use Rattle.patternfile.specs.declared.PatternResult.{PatternResult}
+use Rattle.patternfile.specs.declared.PatternFile.{PatternFile}
 use Rattle.patternfile.specs.Answers.{pattern_of, pattern_outcome}
 use Rattle.patternfile.proofs.Claims.{claims}
 use Rattle.c_patterns.specs.Numbers.{pattern_shown, pattern_read_back}
 
-module _ (b : List ℕ) (r : PatternResult) (told : pattern_outcome r ≡ pattern_of b) where
-  pub small : r.length ≤ 2122
-  small = rw (ap (λ (o : Writing). o.length) told) (claims.fits b)
+pub small : (b : List ℕ) (f : PatternFile) → pattern_outcome (Ok f) ≡ pattern_of b → f.length ≤ 2122
+small b f told = rw (ap (λ (o : Writing). o.length) told) (claims.fits b)
 
 back : (o : Option ℕ) (length : ℕ) (bytes : List ℕ)
     → pattern_read_back (pattern_shown (record { number = o; length = length; bytes = bytes })) ≡ record { number = o; length = length; bytes = bytes }

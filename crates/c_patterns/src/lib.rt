@@ -20,15 +20,24 @@ pub struct PatternNumbers {
 pub fn bellbadger_pattern(pattern: &[u8]) -> PatternNumbers
     ensures { result ≡ pattern_shown (pattern_of pattern.now) }
 {
-    let result = patternfile::write_pattern(pattern);
-    let answer = result.answer;
-    let shown = flags::shown(answer);
-    let length = result.length as u16;
-    let bytes = result.bytes;
-    PatternNumbers {
-        accepted: shown.accepted,
-        refused: shown.refused,
-        length,
-        bytes,
+    match patternfile::write_pattern(pattern) {
+        Ok(file) => {
+            let bytes = file.bytes;
+            PatternNumbers {
+                accepted: 1,
+                refused: 0,
+                length: file.length as u16,
+                bytes,
+            }
+        }
+        Err(refusal) => {
+            let bytes = [0u8; patterns::FILE];
+            PatternNumbers {
+                accepted: 0,
+                refused: refusal.number(),
+                length: 0,
+                bytes,
+            }
+        }
     }
 }

@@ -22,15 +22,24 @@ pub struct ReduceNumbers {
 pub fn bellbadger_reduce(rule: Rule) -> ReduceNumbers
     ensures { result ≡ reduce_shown (reduce_of rule) }
 {
-    let reducing = reduce::reduce(rule);
-    let answer = reducing.answer;
-    let shown = flags::shown(answer);
-    let installs = flags::bit(reducing.installs);
-    let made = reducing.rule;
-    ReduceNumbers {
-        accepted: shown.accepted,
-        refused: shown.refused,
-        installs,
-        rule: made,
+    match reduce::reduce(rule) {
+        Ok(reduced) => {
+            let rule = reduced.rule;
+            ReduceNumbers {
+                accepted: 1,
+                refused: 0,
+                installs: flags::bit(reduced.installs),
+                rule,
+            }
+        }
+        Err(refusal) => {
+            let rule = rulefile::no_rule();
+            ReduceNumbers {
+                accepted: 0,
+                refused: refusal.number(),
+                installs: 0,
+                rule,
+            }
+        }
     }
 }

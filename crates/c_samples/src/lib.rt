@@ -7,7 +7,7 @@ ghost use Rattle.samples.specs.Search.{sample_of};
 ghost use Rattle.c_samples.specs.Numbers.{wish_of, sample_shown};
 
 use automaton::Rule;
-use samples::{SampleAnswer, Wish};
+use samples::Wish;
 
 // Kind is 0 where the rule is refused, and refused has the number; 1 where there is a text, of so
 // many bytes, with zeros after it; 2 where there is none. What a kind has no use for is 0.
@@ -35,28 +35,33 @@ fn wish_of(number: u8) -> Wish
 pub fn bellbadger_sample(wish: u8, rule: Rule) -> SampleNumbers
     ensures { result ≡ sample_shown (outcome_of (sample_of rule (wish_of wish))) }
 {
-    let result = sampling::find_sample(rule, wish_of(wish));
-    let answer = result.answer;
-    let length = result.length as u16;
-    let text = result.text;
-    match answer {
-        SampleAnswer::Refused(refused) => SampleNumbers {
-            kind: 0,
-            refused,
-            length,
-            text,
-        },
-        SampleAnswer::Text => SampleNumbers {
-            kind: 1,
-            refused: 0,
-            length,
-            text,
-        },
-        SampleAnswer::Nothing => SampleNumbers {
-            kind: 2,
-            refused: 0,
-            length,
-            text,
-        },
+    match sampling::find_sample(rule, wish_of(wish)) {
+        Err(refusal) => {
+            let text = [0u8; samples::LONGEST];
+            SampleNumbers {
+                kind: 0,
+                refused: refusal.number(),
+                length: 0,
+                text,
+            }
+        }
+        Ok(Some(spelled)) => {
+            let text = spelled.text;
+            SampleNumbers {
+                kind: 1,
+                refused: 0,
+                length: spelled.length as u16,
+                text,
+            }
+        }
+        Ok(None) => {
+            let text = [0u8; samples::LONGEST];
+            SampleNumbers {
+                kind: 2,
+                refused: 0,
+                length: 0,
+                text,
+            }
+        }
     }
 }

@@ -29,13 +29,21 @@ pub fn bellbadger_save(judge: Judge) -> Saved
 pub fn bellbadger_restore(bytes: &[u8]) -> RestoreNumbers
     ensures { result ≡ restore_shown (restore_of bytes.now) }
 {
-    let restored = saved_judge::restore(bytes);
-    let answer = restored.answer;
-    let shown = flags::shown(answer);
-    let judge = restored.judge;
-    RestoreNumbers {
-        accepted: shown.accepted,
-        refused: shown.refused,
-        judge,
+    match saved_judge::restore(bytes) {
+        Ok(judge) => RestoreNumbers {
+            accepted: 1,
+            refused: 0,
+            judge,
+        },
+        Err(refusal) => {
+            let built = build::nothing_built();
+            let board = board::empty_board(0);
+            let judge = Judge { built, board };
+            RestoreNumbers {
+                accepted: 0,
+                refused: refusal.number(),
+                judge,
+            }
+        }
     }
 }

@@ -2,16 +2,15 @@
 -- 0. A summary stands as it is.
 --
 --   summary_shown s    the summary, or the number of the refusal
---   kind_of v, number_of v   a verdict: kind 0 refused, 1 waiting, 2 yes, 3 no, each with its number,
---                      as the judge shows it; none other than 0, 2 and 3 is concluded
 --   conclude_shown r   what is concluded: the kind and the number, and the bytes, the quotient and
---                      the remainder beside them
+--                      the remainder beside them; no kind other than 0, 2 and 3 is concluded
 --   summary_read_back, conclude_read_back  what such a result says, read back from its numbers
 --   Concluded v k x    a report with the verdict v is shown as kind k with the number x, and its
 --                      other numbers as they are
 --   Claims             every field, case by case, and that nothing is lost by it;
 --                      proofs/Numbers.antt proves it
 use Rattle.std.specs.Prelude.{◌≡◌, cond, ℕ, eqb}
+use Rattle.verdicts.specs.Shown.{kind_of, number_of}
 use Rattle.flags.specs.Flags.{flag_by, refused_by, refusal_by, FlagLaw}
 use Rattle.calls.specs.Replies.{Judgement, waiting, yes_with, no_with, refused_with, Reported}
 use Rattle.summaries.specs.Summaries.{Summarized}
@@ -20,18 +19,6 @@ use Rattle.c_summaries.specs.declared.ConcludeNumbers.{ConcludeNumbers}
 
 abbrev pub summary_shown : Summarized → SummaryNumbers
 summary_shown s = record { accepted = flag_by s.refusal; refused = refused_by s.refusal; summary = s.summary }
-
-abbrev pub kind_of : Judgement → ℕ
-kind_of (refused_with number) = 0
-kind_of (waiting empty) = 1
-kind_of (yes_with count) = 2
-kind_of (no_with count) = 3
-
-abbrev pub number_of : Judgement → ℕ
-number_of (refused_with number) = number
-number_of (waiting empty) = empty
-number_of (yes_with count) = count
-number_of (no_with count) = count
 
 abbrev pub conclude_shown : Reported → ConcludeNumbers
 conclude_shown r = record {

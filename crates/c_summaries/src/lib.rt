@@ -4,9 +4,9 @@
 #![tactic(auto)]
 
 ghost use Rattle.std.specs.Prelude.{◌≡◌};
-ghost use Rattle.calls.specs.Replies.{verdict_means, report_means};
-ghost use Rattle.summaries.specs.Summaries.{combine as combineOf, summarize_of, conclude_of};
-ghost use Rattle.c_summaries.specs.Numbers.{summary_shown, kind_of, number_of, conclude_shown};
+ghost use Rattle.calls.specs.Replies.{report_means};
+ghost use Rattle.summaries.specs.Summaries.{combine as combineOf, no_summary, summarize_of, conclude_of};
+ghost use Rattle.c_summaries.specs.Numbers.{summary_shown, conclude_shown};
 
 use calls::{Judge, Report, Verdict};
 use summaries::Summary;
@@ -43,18 +43,40 @@ pub fn bellbadger_summary_size() -> usize
     SUMMARY_SIZE
 }
 
+// Zeros, and broken.
+fn no_summary() -> Summary
+    ensures { result ≡ no_summary }
+{
+    let leads = [0u32; limits::STATES];
+    Summary {
+        leads,
+        count: 0,
+        bytes: 0,
+        rule: 0,
+        first: 0,
+        end: 0,
+        broken: 1,
+    }
+}
+
 // The summary of the chunk of that number.
 pub fn bellbadger_summarize(judge: Judge, number: u64, chunk: &[u8]) -> SummaryNumbers
     ensures { result ≡ summary_shown (summarize_of judge number chunk.now) }
 {
-    let made = summaries::summarize(judge, number, chunk);
-    let answer = made.answer;
-    let shown = flags::shown(answer);
-    let summary = made.summary;
-    SummaryNumbers {
-        accepted: shown.accepted,
-        refused: shown.refused,
-        summary,
+    match summaries::summarize(judge, number, chunk) {
+        Ok(summary) => SummaryNumbers {
+            accepted: 1,
+            refused: 0,
+            summary,
+        },
+        Err(refusal) => {
+            let summary = no_summary();
+            SummaryNumbers {
+                accepted: 0,
+                refused: refusal.number(),
+                summary,
+            }
+        }
     }
 }
 
@@ -66,35 +88,12 @@ pub fn bellbadger_summary_combine(earlier: Summary, later: Summary) -> Summary
     summaries::combine(earlier, later)
 }
 
-fn kind_of(verdict: Verdict) -> u8
-    ensures { result ≡ kind_of (verdict_means verdict) }
-{
-    match verdict {
-        Verdict::Refused(_) => 0,
-        Verdict::Waiting(_) => 1,
-        Verdict::Yes(_) => 2,
-        Verdict::No(_) => 3,
-    }
-}
-
-fn number_of(verdict: Verdict) -> u64
-    ensures { result ≡ number_of (verdict_means verdict) }
-{
-    match verdict {
-        Verdict::Refused(x) => x as u64,
-        Verdict::Waiting(empty) => empty as u64,
-        Verdict::Yes(count) => count,
-        Verdict::No(count) => count,
-    }
-}
-
 fn shown(report: Report) -> ConcludeNumbers
     ensures { result ≡ conclude_shown (report_means report) }
 {
-    let verdict = report.verdict;
     ConcludeNumbers {
-        kind: kind_of(verdict),
-        number: number_of(verdict),
+        kind: verdicts::kind_of(report.verdict),
+        number: verdicts::number_of(report.verdict),
         bytes: report.bytes,
         quotient: report.quotient,
         remainder: report.remainder,

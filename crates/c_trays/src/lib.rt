@@ -8,7 +8,6 @@ ghost use Rattle.trays.specs.mirror.Steps.{fresh, install_outcome, call_outcome,
 ghost use Rattle.c_trays.specs.Numbers.{install_shown, call_shown, kind_of, number_of, verdict_shown};
 
 use automaton::Rule;
-use build::BuildAnswer;
 use trays::{CallResult, InstallResult, Tray, TrayVerdict};
 
 // Of either installation. Accepted is 1 or 0; where it is 0, refused has the number, sets and
@@ -60,19 +59,18 @@ pub fn bellbadger_tray_new() -> Tray
 fn install_numbers(res: InstallResult) -> InstallNumbers
     ensures { result ≡ install_shown (install_outcome res) }
 {
-    let answer = res.answer;
     let tray = res.tray;
-    match answer {
-        BuildAnswer::Accepted(sets, starts) => InstallNumbers {
+    match res.answer {
+        Ok(sizes) => InstallNumbers {
             accepted: 1,
             refused: 0,
-            sets,
-            starts,
+            sets: sizes.sets,
+            starts: sizes.starts,
             tray,
         },
-        BuildAnswer::Refused(refused) => InstallNumbers {
+        Err(refusal) => InstallNumbers {
             accepted: 0,
-            refused,
+            refused: refusal.number(),
             sets: 0,
             starts: 0,
             tray,
@@ -96,8 +94,7 @@ pub fn bellbadger_tray_install_column(tray: Tray, rule: Rule) -> InstallNumbers
 fn call_numbers(res: CallResult) -> CallNumbers
     ensures { result ≡ call_shown (call_outcome res) }
 {
-    let answer = res.answer;
-    let shown = flags::shown(answer);
+    let shown = flags::shown(res.answer);
     let tray = res.tray;
     CallNumbers {
         accepted: shown.accepted,
@@ -140,7 +137,7 @@ fn number_of(verdict: TrayVerdict) -> u8
     ensures { result ≡ number_of (verdict_means verdict) }
 {
     match verdict {
-        TrayVerdict::Refused(x) => x,
+        TrayVerdict::Refused(refusal) => refusal.number(),
         TrayVerdict::Waiting(empty) => empty,
         TrayVerdict::Yes => 0,
         TrayVerdict::No => 0,

@@ -13,8 +13,9 @@ use borrow.Author.Tests.{eq-eqb, ne_eqb}
 use lib.ListN.{length, take}
 use Rattle.automaton.specs.declared.Rule.{Rule}
 use Rattle.packed.specs.Packed.{rule_at}
-use Rattle.fields.specs.declared.Bytes.{Bytes}
-use Rattle.fields.specs.declared.Bytes.TheVariants.{Put, Malformed}
+use Rattle.std.proofs.Common.{Some, None}
+use Rattle.std.proofs.Common as code
+use Rattle.base.specs.Options.{option_of}
 use Rattle.fields.specs.Bytes.{parse_bytes, Took}
 use Rattle.fields.proofs.Taking.{carries, not_bytes}
 use Rattle.calls.specs.declared.Judge.{Judge}
@@ -25,36 +26,36 @@ use Rattle.calltext.specs.Answers.{replied}
 use Rattle.callrun.specs.Running.{LineOutcome, reply_of, line_step}
 use Rattle.callrun.proofs.Clipped.{loads_clip, delivers_clip, installs_clip}
 
-module _ (field before after : List ℕ) (x : Bytes) (took : Took field before x after) where
+module _ (field before after : List ℕ) (x : code.Option ℕ) (took : Took field before (option_of x) after) where
   module _ (j : Judge) where
-    pub load_malformed : x ≡ Malformed → (o : LineOutcome) → o ≡ line_step j malformed → o ≡ line_step j (load_by (parse_bytes field))
-    load_malformed e o l = rw (not_bytes field before after x took e) l
+    pub load_malformed : x ≡ None → (o : LineOutcome) → o ≡ line_step j malformed → o ≡ line_step j (load_by (parse_bytes field))
+    load_malformed e o l = rw (not_bytes field before after (option_of x) took (ap option_of e)) l
 
-    pub install_malformed : x ≡ Malformed → (o : LineOutcome) → o ≡ line_step j malformed → o ≡ line_step j (install_by (parse_bytes field))
-    install_malformed e o l = rw (not_bytes field before after x took e) l
+    pub install_malformed : x ≡ None → (o : LineOutcome) → o ≡ line_step j malformed → o ≡ line_step j (install_by (parse_bytes field))
+    install_malformed e o l = rw (not_bytes field before after (option_of x) took (ap option_of e)) l
 
-    pub deliver_malformed : (p v : ℕ) → x ≡ Malformed → (o : LineOutcome) → o ≡ line_step j malformed → o ≡ line_step j (deliver_by (some p) (some v) (parse_bytes field))
-    deliver_malformed p v e o l = rw (not_bytes field before after x took e) l
+    pub deliver_malformed : (p v : ℕ) → x ≡ None → (o : LineOutcome) → o ≡ line_step j malformed → o ≡ line_step j (deliver_by (some p) (some v) (parse_bytes field))
+    deliver_malformed p v e o l = rw (not_bytes field before after (option_of x) took (ap option_of e)) l
 
-    pub install_put : 65537 ≤ length before → (n : ℕ) → x ≡ Put n → (o : LineOutcome) → o ≡ line_step j (install_by (some (take n after)))
+    pub install_put : 65537 ≤ length before → (n : ℕ) → x ≡ Some n → (o : LineOutcome) → o ≡ line_step j (install_by (some (take n after)))
         → o ≡ line_step j (install_by (parse_bytes field))
     install_put room n put o l =
-        let k = carries field before after x took n put in
+        let k = carries field before after (option_of x) took n (ap option_of put) in
         let whole = ap (λ (b : List ℕ). install_by (some b)) k.is ∙ installs_clip k.bytes (length before) (omega arith) in
         rw k.said (l ∙ ap (line_step j) whole)
 
-    module _ (room : 65537 ≤ length before) (n : ℕ) (put : x ≡ Put n) (a : Reply) (next : Judge) where
+    module _ (room : 65537 ≤ length before) (n : ℕ) (put : x ≡ Some n) (a : Reply) (next : Judge) where
       pub load_put : record { reply = a; state = next } ≡ load_of j (take n after)
           → record { response = replied a; state = next } ≡ line_step j (load_by (parse_bytes field))
       load_put l =
-          let k = carries field before after x took n put in
+          let k = carries field before after (option_of x) took n (ap option_of put) in
           let whole = l ∙ ap (load_of j) k.is ∙ loads_clip j k.bytes (length before) (omega arith) in
           rw k.said (ap reply_of whole)
 
       pub deliver_put : (p v : ℕ) → record { reply = a; state = next } ≡ deliver_of j p v (take n after)
           → record { response = replied a; state = next } ≡ line_step j (deliver_by (some p) (some v) (parse_bytes field))
       deliver_put p v l =
-          let k = carries field before after x took n put in
+          let k = carries field before after (option_of x) took n (ap option_of put) in
           let whole = l ∙ ap (deliver_of j p v) k.is ∙ delivers_clip j p v k.bytes (length before) (omega arith) in
           rw k.said (ap reply_of whole)
 

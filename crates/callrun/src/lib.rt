@@ -11,7 +11,6 @@ ghost use Rattle.callrun.specs.Running.{line_step, run_outcome, Scratch};
 
 use calls::Judge;
 use calltext::{Line, LineAnswer};
-use fields::Bytes;
 
 // What a line is answered, and the judge that it leaves.
 #[derive(Clone, Copy)]
@@ -24,16 +23,20 @@ pub struct LineRun {
 fn run_malformed(judge: Judge) -> LineRun
     ensures { run_outcome result ≡ line_step judge malformed }
 {
-    let answer = LineAnswer::Malformed;
-    LineRun { answer, judge }
+    LineRun {
+        answer: LineAnswer::Malformed,
+        judge,
+    }
 }
 
 fn run_empty(judge: Judge) -> LineRun
     ensures { run_outcome result ≡ line_step judge again }
 {
-    let answer = LineAnswer::Began;
     let judge = judge::new_judge();
-    LineRun { answer, judge }
+    LineRun {
+        answer: LineAnswer::Began,
+        judge,
+    }
 }
 
 // The bytes go through the lent buffer. What is longer than the buffer is refused by its length
@@ -43,16 +46,14 @@ fn run_load(judge: Judge, field: &[u8], buffer: &mut [u8]) -> LineRun
     ensures result_value { run_outcome result ≡ line_step judge (load_by (parse_bytes field.now)) }
     ensures scratch { Scratch buffer.old buffer.new }
 {
-    let bytes = fields::read_bytes(field, buffer);
-    match bytes {
-        Bytes::Malformed => run_malformed(judge),
-        Bytes::Put(n) => {
-            let loading = judge::load(judge, &buffer[..n]);
-            let said = loading.answer;
-            let answer = LineAnswer::Install(said);
-            let judge = loading.judge;
-            LineRun { answer, judge }
-        }
+    let Some(n) = fields::read_bytes(field, buffer) else {
+        return run_malformed(judge);
+    };
+    let loading = judge::load(judge, &buffer[..n]);
+    let judge = loading.judge;
+    LineRun {
+        answer: LineAnswer::Install(loading.answer),
+        judge,
     }
 }
 
@@ -64,10 +65,11 @@ fn install_bytes(judge: Judge, bytes: &[u8]) -> LineRun
         return run_malformed(judge);
     }
     let installing = judge::install(judge, packed::unpack(bytes));
-    let said = installing.answer;
-    let answer = LineAnswer::Install(said);
     let judge = installing.judge;
-    LineRun { answer, judge }
+    LineRun {
+        answer: LineAnswer::Install(installing.answer),
+        judge,
+    }
 }
 
 // What does not fit the buffer has more than 2,058 bytes and is malformed.
@@ -76,21 +78,21 @@ fn run_install(judge: Judge, field: &[u8], buffer: &mut [u8]) -> LineRun
     ensures result_value { run_outcome result ≡ line_step judge (install_by (parse_bytes field.now)) }
     ensures scratch { Scratch buffer.old buffer.new }
 {
-    let bytes = fields::read_bytes(field, buffer);
-    match bytes {
-        Bytes::Malformed => run_malformed(judge),
-        Bytes::Put(n) => install_bytes(judge, &buffer[..n]),
-    }
+    let Some(n) = fields::read_bytes(field, buffer) else {
+        return run_malformed(judge);
+    };
+    install_bytes(judge, &buffer[..n])
 }
 
 fn run_open(judge: Judge, places: u64) -> LineRun
     ensures { run_outcome result ≡ line_step judge (call (opens places)) }
 {
     let opening = judge::open(judge, places as usize);
-    let said = opening.answer;
-    let answer = LineAnswer::Open(said);
     let judge = opening.judge;
-    LineRun { answer, judge }
+    LineRun {
+        answer: LineAnswer::Open(opening.answer),
+        judge,
+    }
 }
 
 fn run_deliver(judge: Judge, place: u64, revision: u32, field: &[u8], buffer: &mut [u8]) -> LineRun
@@ -98,16 +100,14 @@ fn run_deliver(judge: Judge, place: u64, revision: u32, field: &[u8], buffer: &m
     ensures result_value { run_outcome result ≡ line_step judge (deliver_by (some place) (some revision) (parse_bytes field.now)) }
     ensures scratch { Scratch buffer.old buffer.new }
 {
-    let bytes = fields::read_bytes(field, buffer);
-    match bytes {
-        Bytes::Malformed => run_malformed(judge),
-        Bytes::Put(n) => {
-            let delivery = judge::deliver(judge, place as usize, revision, &buffer[..n]);
-            let said = delivery.answer;
-            let answer = LineAnswer::Deliver(said);
-            let judge = delivery.judge;
-            LineRun { answer, judge }
-        }
+    let Some(n) = fields::read_bytes(field, buffer) else {
+        return run_malformed(judge);
+    };
+    let delivery = judge::deliver(judge, place as usize, revision, &buffer[..n]);
+    let judge = delivery.judge;
+    LineRun {
+        answer: LineAnswer::Deliver(delivery.answer),
+        judge,
     }
 }
 
@@ -115,18 +115,21 @@ fn run_withdraw(judge: Judge, place: u64) -> LineRun
     ensures { run_outcome result ≡ line_step judge (call (withdraws place)) }
 {
     let withdrawal = judge::withdraw(judge, place as usize);
-    let said = withdrawal.answer;
-    let answer = LineAnswer::Withdraw(said);
     let judge = withdrawal.judge;
-    LineRun { answer, judge }
+    LineRun {
+        answer: LineAnswer::Withdraw(withdrawal.answer),
+        judge,
+    }
 }
 
 fn run_verdict(judge: Judge) -> LineRun
     ensures { run_outcome result ≡ line_step judge (call asks_verdict) }
 {
     let said = judge::ask_verdict(judge);
-    let answer = LineAnswer::Verdict(said);
-    LineRun { answer, judge }
+    LineRun {
+        answer: LineAnswer::Verdict(said),
+        judge,
+    }
 }
 
 // The call of a line that was parsed. The buffer is for the bytes that the line carries.

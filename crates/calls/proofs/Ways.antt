@@ -14,22 +14,19 @@ use mathlib.Core.Path.{◌≡◌, sym, ap, ◌∙◌}
 use mathlib.Core.Bool.{Bool, true, false, cond}
 use mathlib.Core.List.{List}
 use mathlib.Core.Option.{none, some}
+use Rattle.std.proofs.Common.{Result, Ok, Err}
 use Prim.Native.Nat.{ℕ, ◌/◌, ◌%◌, ◌≤◌, ◌<◌}
 use lib.ListN.{length}
 use borrow.Author.Tests.{lt-ltb, le-ltb, le-leb, lt-leb, eq-eqb, ne_eqb}
-use Rattle.base.specs.Answers.{answer_number}
+use Rattle.base.specs.Answers.{refusal_number, result_number}
 use Rattle.base.proofs.Tests.{by_test, zero_one}
 use Rattle.automaton.specs.declared.Rule.{Rule}
-use Rattle.base.specs.declared.Answer.{Answer}
-use Rattle.base.specs.declared.Answer.TheVariants as check
+use Rattle.base.specs.declared.Refusal.{Refusal}
 use Rattle.rulecheck.specs.Checking.{rule_number}
-use Rattle.ruleformat.specs.declared.ReadResult.{ReadResult}
 use Rattle.ruleformat.specs.Reader.{Reading, read_outcome, read_of}
 use Rattle.ruleformat.proofs.Claims as rulefile
-use Rattle.build.specs.declared.BuildAnswer.TheVariants as build
 use Rattle.build.specs.declared.Built.{Built}
-use Rattle.build.specs.declared.BuildResult.{BuildResult}
-use Rattle.build.specs.mirror.Building.{accepted, refused, build_means, sets, built_of, no_built, Outcome as BuiltOutcome, build_outcome, build_of}
+use Rattle.build.specs.mirror.Building.{accepted, refused, sets, built_of, no_built, Outcome as BuiltOutcome, build_outcome, build_of}
 use Rattle.chunks.specs.declared.Runs.{Runs}
 use Rattle.marks.specs.Marks.{text_of}
 use Rattle.chunks.specs.Chunks.{foreign}
@@ -162,7 +159,7 @@ module _ (x : Verdict) (bytes : ℕ) (r : reply.Reported) where
   pub report_no : (c : ℕ) → x ≡ verdict.No c → r ≡ per_byte (reply.no_with c) c bytes → r ≡ report_by (reply.verdict_means x) bytes
   report_no c is said = said ∙ rw is
 
-  pub report_refused : (n : ℕ) → x ≡ verdict.Refused n → r ≡ alone (reply.verdict_means x) → r ≡ report_by (reply.verdict_means x) bytes
+  pub report_refused : (n : Refusal) → x ≡ verdict.Refused n → r ≡ alone (reply.verdict_means x) → r ≡ report_by (reply.verdict_means x) bytes
   report_refused n is said = said ∙ rw is
 
 -- ---- install
@@ -172,62 +169,61 @@ module _ (j : Judge) (r : Rule) where
   unfolding install_of
   refused_with_lem number told o e = e ∙ rw told
 
-  module _ (a : Answer) (checked : answer_number a ≡ rule_number r) where
+  module _ (a : Result (Unit {0}) Refusal) (checked : result_number a ≡ rule_number r) where
     -- the rule does not pass
-    pub install_unchecked : (number : ℕ) → a ≡ check.Refused number
-        → (o : Outcome) → o ≡ record { reply = reply.refused number; state = j } → o ≡ install_of j r
-    install_unchecked number told =
-        let is : rule_number r ≡ some number = sym checked ∙ ap answer_number told in
-        refused_with_lem number (install_number_lem r ∙ rw is)
+    pub install_unchecked : (refusal : Refusal) → a ≡ Err refusal
+        → (o : Outcome) → o ≡ record { reply = reply.refused (refusal_number refusal); state = j } → o ≡ install_of j r
+    install_unchecked refusal told =
+        let is : rule_number r ≡ some (refusal_number refusal) = sym checked ∙ ap result_number told in
+        refused_with_lem (refusal_number refusal) (install_number_lem r ∙ rw is)
 
-    module _ (told : a ≡ check.Accepted) (b : BuildResult) (came : build_outcome b ≡ build_of r) where
+    module _ (u : Unit {0}) (told : a ≡ Ok u) (b : Result Built Refusal) (came : build_outcome b ≡ build_of r) where
       number_is : install_number r ≡ cond (over r) (some 9) none
       number_is =
-          let passes : rule_number r ≡ none = sym checked ∙ ap answer_number told in
+          let passes : rule_number r ≡ none = sym checked ∙ ap result_number told in
           install_number_lem r ∙ rw passes
 
       -- it has too many sets
-      pub install_unbuilt : (number : ℕ) → b.answer ≡ build.Refused number
-          → (o : Outcome) → o ≡ record { reply = reply.refused number; state = j } → o ≡ install_of j r
+      pub install_unbuilt : (refusal : Refusal) → b ≡ Err refusal
+          → (o : Outcome) → o ≡ record { reply = reply.refused (refusal_number refusal); state = j } → o ≡ install_of j r
       unfolding build_of
-      install_unbuilt number answered =
+      install_unbuilt refusal answered =
+          let said : build_outcome b ≡ build_outcome (Err refusal) = ap build_outcome answered in
           by_test (over r)
           (λ t.
-          let is : refused number ≡ refused 9 = sym (ap build_means answered) ∙ ap (λ (o : BuiltOutcome). o.answer) came ∙ rw t in
-          let nine : number ≡ 9 = cc in
-          refused_with_lem number (number_is ∙ rw (t, nine)))
+          let is : refused (refusal_number refusal) ≡ refused 9 = sym (ap (λ (o : BuiltOutcome). o.answer) said) ∙ ap (λ (o : BuiltOutcome). o.answer) came ∙ rw t in
+          let nine : refusal_number refusal ≡ 9 = cc in
+          refused_with_lem (refusal_number refusal) (number_is ∙ rw (t, nine)))
           (λ few.
-          let is : refused number ≡ accepted (length (sets r)) (built_of r).startcount =
-          sym (ap build_means answered) ∙ ap (λ (o : BuiltOutcome). o.answer) came ∙ rw few in
+          let is : refused (refusal_number refusal) ≡ accepted (length (sets r)) (built_of r).startcount =
+          sym (ap (λ (o : BuiltOutcome). o.answer) said) ∙ ap (λ (o : BuiltOutcome). o.answer) came ∙ rw few in
           zero_one cc)
 
-      pub installed : (m starts : ℕ) → b.answer ≡ build.Accepted m starts → (e : Board) → e ≡ empty_board 0
-          → record { reply = reply.installed m starts; state = record { built = b.built; board = e } } ≡ install_of j r
+      pub installed : (built : Built) → b ≡ Ok built → (e : Board) → e ≡ empty_board 0
+          → record { reply = reply.installed built.setcount built.startcount; state = record { built = built; board = e } } ≡ install_of j r
       unfolding build_of install_of
-      installed m starts answered e empty =
+      installed built answered e empty =
+          let said : build_outcome b ≡ build_outcome (Ok built) = ap build_outcome answered in
           by_test (over r)
           (λ t.
-          let is : accepted m starts ≡ refused 9 = sym (ap build_means answered) ∙ ap (λ (o : BuiltOutcome). o.answer) came ∙ rw t in
+          let is : accepted built.setcount built.startcount ≡ refused 9 = sym (ap (λ (o : BuiltOutcome). o.answer) said) ∙ ap (λ (o : BuiltOutcome). o.answer) came ∙ rw t in
           zero_one cc)
           (λ few.
-          let is : accepted m starts ≡ accepted (length (sets r)) (built_of r).startcount =
-          sym (ap build_means answered) ∙ ap (λ (o : BuiltOutcome). o.answer) came ∙ rw few in
-          let built : b.built ≡ built_of r = ap (λ (o : BuiltOutcome). o.built) came ∙ rw few in
-          let same-m : m ≡ length (sets r) = cc in
-          let same-starts : starts ≡ (built_of r).startcount = cc in
+          let is : built ≡ built_of r = sym (ap (λ (o : BuiltOutcome). o.built) said) ∙ ap (λ (o : BuiltOutcome). o.built) came ∙ rw few in
           let none_is : install_number r ≡ none = number_is ∙ rw few in
-          rw (same-m, same-starts, built, empty, none_is))
+          rw (is, empty, none_is))
 
 -- ---- load
-module _ (j : Judge) (f : List ℕ) (read : ReadResult) (reads : read_outcome read ≡ read_of f) where
+module _ (j : Judge) (f : List ℕ) (read : Result Rule Refusal) (reads : read_outcome read ≡ read_of f) where
   -- the file is refused
-  pub load_unread : (number : ℕ) → read.answer ≡ check.Refused number
-      → (o : Outcome) → o ≡ record { reply = reply.refused number; state = j } → o ≡ load_of j f
-  load_unread number told o e =
-      e ∙ sym ((load_is j f).unread number (ap (λ (x : Reading). x.number) (sym reads) ∙ ap answer_number told))
+  pub load_unread : (refusal : Refusal) → read ≡ Err refusal
+      → (o : Outcome) → o ≡ record { reply = reply.refused (refusal_number refusal); state = j } → o ≡ load_of j f
+  load_unread refusal told o e =
+      e ∙ sym ((load_is j f).unread (refusal_number refusal) (ap (λ (x : Reading). x.number) (sym reads ∙ ap read_outcome told)))
 
   -- its rule is installed
-  pub load_read : read.answer ≡ check.Accepted → (o : Outcome) → o ≡ install_of j read.rule → o ≡ load_of j f
-  load_read told o e =
-      let taken = ap (λ (x : Reading). x.number) (sym reads) ∙ ap answer_number told in
-      e ∙ ap (install_of j) (ap (λ (x : Reading). x.rule) reads ∙ ((rulefile.claims).reading f).rule taken) ∙ sym ((load_is j f).installed taken)
+  pub load_read : (rule : Rule) → read ≡ Ok rule → (o : Outcome) → o ≡ install_of j rule → o ≡ load_of j f
+  load_read rule told o e =
+      let is : record { number = none; rule = rule } ≡ read_of f = sym (ap read_outcome told) ∙ reads in
+      let taken : (read_of f).number ≡ none = ap (λ (x : Reading). x.number) (sym is) in
+      e ∙ ap (install_of j) (ap (λ (x : Reading). x.rule) is ∙ ((rulefile.claims).reading f).rule taken) ∙ sym ((load_is j f).installed taken)

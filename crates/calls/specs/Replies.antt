@@ -18,13 +18,10 @@
 --   Outcome              the outcome of a call: its reply, and the state that it leaves
 --   install_outcome .. deliver_outcome  the outcome that the code's result stands for
 use Rattle.std.proofs.Math.Option.{Option, none, some}
-use Rattle.std.specs.Prelude.{ℕ}
-use Rattle.build.specs.declared.BuildAnswer.{BuildAnswer}
-use Rattle.build.specs.declared.BuildAnswer.TheVariants as install
-use Rattle.base.specs.declared.Answer.{Answer}
-use Rattle.base.specs.declared.Answer.TheVariants as call
-use Rattle.calls.specs.declared.DeliverAnswer.{DeliverAnswer}
-use Rattle.calls.specs.declared.DeliverAnswer.TheVariants as delivery
+use Rattle.std.specs.Prelude.{Result, Ok, Err, ℕ}
+use Rattle.base.specs.declared.Refusal.{Refusal}
+use Rattle.base.specs.Answers.{refusal_number}
+use Rattle.calls.specs.declared.Sizes.{Sizes}
 use Rattle.calls.specs.declared.Judge.{Judge}
 use Rattle.calls.specs.declared.InstallResult.{InstallResult}
 use Rattle.calls.specs.declared.CallResult.{CallResult}
@@ -65,23 +62,23 @@ refusal_of (delivered looked) = none
 refusal_of (judged r) = refusal_in r.verdict
 refusal_of (refused number) = some number
 
-abbrev pub install_means : BuildAnswer → Reply
-install_means (install.Accepted sets starts) = installed sets starts
-install_means (install.Refused number) = refused number
+abbrev pub install_means : Result Sizes Refusal → Reply
+install_means (Ok sizes) = installed sizes.sets sizes.starts
+install_means (Err refusal) = refused (refusal_number refusal)
 
-abbrev pub call_means : Answer → Reply
-call_means call.Accepted = accepted
-call_means (call.Refused number) = refused number
+abbrev pub call_means : Result (Unit {0}) Refusal → Reply
+call_means (Ok _) = accepted
+call_means (Err refusal) = refused (refusal_number refusal)
 
-abbrev pub deliver_means : DeliverAnswer → Reply
-deliver_means (delivery.Accepted looked) = delivered looked
-deliver_means (delivery.Refused number) = refused number
+abbrev pub deliver_means : Result ℕ Refusal → Reply
+deliver_means (Ok looked) = delivered looked
+deliver_means (Err refusal) = refused (refusal_number refusal)
 
 abbrev pub verdict_means : Verdict → Judgement
 verdict_means (Waiting empty) = waiting empty
 verdict_means (Yes count) = yes_with count
 verdict_means (No count) = no_with count
-verdict_means (Refused number) = refused_with number
+verdict_means (Refused refusal) = refused_with (refusal_number refusal)
 
 abbrev pub report_means : Report → Reported
 report_means r = record { verdict = verdict_means r.verdict; bytes = r.bytes; quotient = r.quotient; remainder = r.remainder }

@@ -12,10 +12,10 @@ use lib.Seq.{take_all, drop-drop}
 use Rattle.base.proofs.Tests.{by_test}
 use Rattle.lines.specs.Splitting.{begins, up_to, past}
 use Rattle.lines.proofs.Splits.{begins_short, up_take, past_there, past_none}
-use Rattle.fields.specs.declared.Number.{Number}
-use Rattle.fields.specs.declared.Number.TheVariants.{Value}
-use Rattle.fields.specs.declared.Number.TheVariants as number
-use Rattle.fields.specs.Numbers.{parse_number, number_means}
+use Rattle.std.proofs.Common.{Some, None}
+use Rattle.std.proofs.Common as code
+use Rattle.base.specs.Options.{option_of}
+use Rattle.fields.specs.Numbers.{parse_number}
 use Rattle.fields.specs.Bytes.{parse_bytes}
 use Rattle.calls.specs.Calls.{opens, withdraws}
 use Rattle.calltext.specs.declared.Line.{Line}
@@ -23,18 +23,18 @@ use Rattle.calltext.specs.declared.Line.TheVariants.{Empty, Load, Install, Verdi
 use Rattle.calltext.specs.Meaning.{Meaning, call, malformed, load_word, install_word, open_word, deliver_word, withdraw_word, verdict_word, open_by, withdraw_by, deliver_by, revision_fields, deliver_fields, call_in, line_in, line_means, bytes_from, Parsed}
 
 -- ---- the number of an opening and of a withdrawal
-module _ (field : List ℕ) (x : Number) (said : number_means x ≡ parse_number field) where
-  pub open_value : (n : ℕ) → x ≡ Value n → call (opens n) ≡ open_by (parse_number field)
-  open_value n e = ap open_by (sym (ap number_means e) ∙ said)
+module _ (field : List ℕ) (x : code.Option ℕ) (said : option_of x ≡ parse_number field) where
+  pub open_value : (n : ℕ) → x ≡ Some n → call (opens n) ≡ open_by (parse_number field)
+  open_value n e = ap open_by (sym (ap option_of e) ∙ said)
 
-  pub open_malformed : x ≡ number.Malformed → malformed ≡ open_by (parse_number field)
-  open_malformed e = ap open_by (sym (ap number_means e) ∙ said)
+  pub open_malformed : x ≡ None → malformed ≡ open_by (parse_number field)
+  open_malformed e = ap open_by (sym (ap option_of e) ∙ said)
 
-  pub withdraw_value : (p : ℕ) → x ≡ Value p → call (withdraws p) ≡ withdraw_by (parse_number field)
-  withdraw_value p e = ap withdraw_by (sym (ap number_means e) ∙ said)
+  pub withdraw_value : (p : ℕ) → x ≡ Some p → call (withdraws p) ≡ withdraw_by (parse_number field)
+  withdraw_value p e = ap withdraw_by (sym (ap option_of e) ∙ said)
 
-  pub withdraw_malformed : x ≡ number.Malformed → malformed ≡ withdraw_by (parse_number field)
-  withdraw_malformed e = ap withdraw_by (sym (ap number_means e) ∙ said)
+  pub withdraw_malformed : x ≡ None → malformed ≡ withdraw_by (parse_number field)
+  withdraw_malformed e = ap withdraw_by (sym (ap option_of e) ∙ said)
 
 -- ---- the fields of a delivery
 pub no_place : (v : List ℕ) (o : Option (List ℕ)) → revision_fields none v o ≡ malformed
@@ -72,27 +72,27 @@ module _ (w : List ℕ) (from : ℕ) (long : from ≤ length w) (space : ℕ) (f
         past_there 32 (drop from w) (omega (arith, rest_length))
         ∙ ap (λ (l : List ℕ). some l) (drop-drop (suc m) from w ∙ ap (λ (x : ℕ). drop x w) next)
 
-    module _ (x : Number) (said : number_means x ≡ parse_number (take (space - from) (drop from w))) where
-      pub says : (o : Option ℕ) → number_means x ≡ o → parse_number (up_to 32 (drop from w)) ≡ o
+    module _ (x : code.Option ℕ) (said : option_of x ≡ parse_number (take (space - from) (drop from w))) where
+      pub says : (o : Option ℕ) → option_of x ≡ o → parse_number (up_to 32 (drop from w)) ≡ o
       says o e = sym (said ∙ ap parse_number part_is) ∙ e
 
-      pub deliver_on : (p : ℕ) → x ≡ Value p → (m : Meaning) → m ≡ revision_fields (some p) (up_to 32 (drop (space + 1) w)) (past 32 (drop (space + 1) w))
+      pub deliver_on : (p : ℕ) → x ≡ Some p → (m : Meaning) → m ≡ revision_fields (some p) (up_to 32 (drop (space + 1) w)) (past 32 (drop (space + 1) w))
           → m ≡ deliver_fields (up_to 32 (drop from w)) (past 32 (drop from w))
-      deliver_on p e m l = rw (behind_is, says (some p) (ap number_means e)) l
+      deliver_on p e m l = rw (behind_is, says (some p) (ap option_of e)) l
 
-      pub deliver_malformed : x ≡ number.Malformed → malformed ≡ deliver_fields (up_to 32 (drop from w)) (past 32 (drop from w))
-      deliver_malformed e = rw (behind_is, says none (ap number_means e)) (sym (no_place (up_to 32 (drop (space + 1) w)) (past 32 (drop (space + 1) w))))
+      pub deliver_malformed : x ≡ None → malformed ≡ deliver_fields (up_to 32 (drop from w)) (past 32 (drop from w))
+      deliver_malformed e = rw (behind_is, says none (ap option_of e)) (sym (no_place (up_to 32 (drop (space + 1) w)) (past 32 (drop (space + 1) w))))
 
       module _ (p : ℕ) where
-        pub revision_malformed : x ≡ number.Malformed → malformed ≡ revision_fields (some p) (up_to 32 (drop from w)) (past 32 (drop from w))
-        revision_malformed e = rw (behind_is, says none (ap number_means e))
+        pub revision_malformed : x ≡ None → malformed ≡ revision_fields (some p) (up_to 32 (drop from w)) (past 32 (drop from w))
+        revision_malformed e = rw (behind_is, says none (ap option_of e))
 
-        pub revision_large : (v : ℕ) → x ≡ Value v → 4294967295 < v → malformed ≡ revision_fields (some p) (up_to 32 (drop from w)) (past 32 (drop from w))
-        revision_large v e h = rw (behind_is, says (some v) (ap number_means e), lt-leb v 4294967295 h)
+        pub revision_large : (v : ℕ) → x ≡ Some v → 4294967295 < v → malformed ≡ revision_fields (some p) (up_to 32 (drop from w)) (past 32 (drop from w))
+        revision_large v e h = rw (behind_is, says (some v) (ap option_of e), lt-leb v 4294967295 h)
 
-        pub revision_value : (v : ℕ) → x ≡ Value v → v ≤ 4294967295
+        pub revision_value : (v : ℕ) → x ≡ Some v → v ≤ 4294967295
             → deliver_by (some p) (some v) (parse_bytes (drop (space + 1) w)) ≡ revision_fields (some p) (up_to 32 (drop from w)) (past 32 (drop from w))
-        revision_value v e h = rw (behind_is, says (some v) (ap number_means e), le-leb v 4294967295 h)
+        revision_value v e h = rw (behind_is, says (some v) (ap option_of e), le-leb v 4294967295 h)
 
 -- a part of a line up to its end
 pub to_the_end : (w : List ℕ) (from : ℕ) → take (length w - from) (drop from w) ≡ drop from w

@@ -10,12 +10,10 @@ ghost use Rattle.fields.specs.Numbers.{parse_number};
 ghost use Rattle.lines.specs.Splitting.{up_to, past};
 ghost use Rattle.calltext.specs.Meaning.{open_by, withdraw_by, revision_fields, deliver_fields, line_means, bytes_from, Parsed};
 ghost use Rattle.calltext.specs.Answers.{replied, is_malformed, response_text, answer_means};
-ghost use Rattle.calls.specs.Replies.{accepted, judged, install_means, call_means, deliver_means, report_means};
+ghost use Rattle.calls.specs.Replies.{judged, install_means, call_means, deliver_means, report_means};
 
-use base::Answer;
-use build::BuildAnswer;
-use calls::{DeliverAnswer, Report, Verdict};
-use fields::Number;
+use base::Refusal;
+use calls::{Report, Sizes, Verdict};
 
 // A line. The bytes of a load begin at index 5, those of an installation at 8, those of a delivery
 // at the index beside its place and its revision.
@@ -34,20 +32,18 @@ pub enum Line {
 fn opening(field: &[u8]) -> Line
     ensures { (bytes_from result ≡ 0) × ((w : List ℕ) → line_means w result ≡ open_by (parse_number field.now)) }
 {
-    let number = fields::read_number(field);
-    match number {
-        Number::Value(n) => Line::Open(n),
-        Number::Malformed => Line::Malformed,
+    match fields::read_number(field) {
+        Some(places) => Line::Open(places),
+        None => Line::Malformed,
     }
 }
 
 fn withdrawal(field: &[u8]) -> Line
     ensures { (bytes_from result ≡ 0) × ((w : List ℕ) → line_means w result ≡ withdraw_by (parse_number field.now)) }
 {
-    let number = fields::read_number(field);
-    match number {
-        Number::Value(p) => Line::Withdraw(p),
-        Number::Malformed => Line::Malformed,
+    match fields::read_number(field) {
+        Some(place) => Line::Withdraw(place),
+        None => Line::Malformed,
     }
 }
 
@@ -60,8 +56,7 @@ fn delivery_at(line: &[u8], place: u64, from: usize) -> Line
     if line.len() <= space {
         return Line::Malformed;
     }
-    let number = fields::read_number(&line[from..space]);
-    let Number::Value(revision) = number else {
+    let Some(revision) = fields::read_number(&line[from..space]) else {
         return Line::Malformed;
     };
     if limits::REVISION < revision {
@@ -79,10 +74,9 @@ fn delivery(line: &[u8]) -> Line
     if line.len() <= space {
         return Line::Malformed;
     }
-    let number = fields::read_number(&line[8..space]);
-    match number {
-        Number::Value(p) => delivery_at(line, p, space + 1),
-        Number::Malformed => Line::Malformed,
+    match fields::read_number(&line[8..space]) {
+        Some(place) => delivery_at(line, place, space + 1),
+        None => Line::Malformed,
     }
 }
 
@@ -122,66 +116,48 @@ pub fn parse(line: &[u8]) -> Line
 #[derive(Clone, Copy)]
 pub enum LineAnswer {
     Began,
-    Install(BuildAnswer),
-    Open(Answer),
-    Deliver(DeliverAnswer),
-    Withdraw(Answer),
+    Install(Result<Sizes, Refusal>),
+    Open(Result<(), Refusal>),
+    Deliver(Result<u32, Refusal>),
+    Withdraw(Result<(), Refusal>),
     Verdict(Report),
     Malformed,
 }
 
-// An answer of a word alone.
-fn put_accepted(out: &mut [u8]) -> usize
-    requires { answer_room ≤ length out.old }
-    ensures { Wrote out.old 0 (response_text (replied accepted)) out.new result }
-{
-    text::put_bytes(out, 0, b"accepted\n")
-}
-
 // What a call is answered, a function for each type of answer.
-fn put_install(out: &mut [u8], answer: BuildAnswer) -> usize
+fn put_install(out: &mut [u8], answer: Result<Sizes, Refusal>) -> usize
     requires { answer_room ≤ length out.old }
     ensures { Wrote out.old 0 (response_text (replied (install_means answer))) out.new result }
 {
     match answer {
-        BuildAnswer::Accepted(sets, starts) => {
-            let numbers = [sets as u64, starts as u64];
+        Ok(sizes) => {
+            let numbers = [sizes.sets as u64, sizes.starts as u64];
             answers::put_line(out, 0, b"accepted", &numbers)
         }
-        BuildAnswer::Refused(number) => answers::put_refused(out, 0, number),
+        Err(refusal) => answers::put_refused(out, 0, refusal.number()),
     }
 }
 
-fn put_open(out: &mut [u8], answer: Answer) -> usize
+fn put_call(out: &mut [u8], answer: Result<(), Refusal>) -> usize
     requires { answer_room ≤ length out.old }
     ensures { Wrote out.old 0 (response_text (replied (call_means answer))) out.new result }
 {
     match answer {
-        Answer::Accepted => put_accepted(out),
-        Answer::Refused(number) => answers::put_refused(out, 0, number),
+        Ok(()) => text::put_bytes(out, 0, b"accepted\n"),
+        Err(refusal) => answers::put_refused(out, 0, refusal.number()),
     }
 }
 
-fn put_deliver(out: &mut [u8], answer: DeliverAnswer) -> usize
+fn put_deliver(out: &mut [u8], answer: Result<u32, Refusal>) -> usize
     requires { answer_room ≤ length out.old }
     ensures { Wrote out.old 0 (response_text (replied (deliver_means answer))) out.new result }
 {
     match answer {
-        DeliverAnswer::Accepted(looked) => {
+        Ok(looked) => {
             let numbers = [looked as u64];
             answers::put_line(out, 0, b"accepted", &numbers)
         }
-        DeliverAnswer::Refused(number) => answers::put_refused(out, 0, number),
-    }
-}
-
-fn put_withdraw(out: &mut [u8], answer: Answer) -> usize
-    requires { answer_room ≤ length out.old }
-    ensures { Wrote out.old 0 (response_text (replied (call_means answer))) out.new result }
-{
-    match answer {
-        Answer::Accepted => put_accepted(out),
-        Answer::Refused(number) => answers::put_refused(out, 0, number),
+        Err(refusal) => answers::put_refused(out, 0, refusal.number()),
     }
 }
 
@@ -189,8 +165,7 @@ fn put_report(out: &mut [u8], report: Report) -> usize
     requires { answer_room ≤ length out.old }
     ensures { Wrote out.old 0 (response_text (replied (judged (report_means report)))) out.new result }
 {
-    let verdict = report.verdict;
-    match verdict {
+    match report.verdict {
         Verdict::Waiting(empty) => {
             let numbers = [empty as u64];
             answers::put_line(out, 0, b"waiting", &numbers)
@@ -203,7 +178,7 @@ fn put_report(out: &mut [u8], report: Report) -> usize
             let numbers = [count, report.bytes, report.quotient, report.remainder];
             answers::put_line(out, 0, b"no", &numbers)
         }
-        Verdict::Refused(number) => answers::put_refused(out, 0, number),
+        Verdict::Refused(refusal) => answers::put_refused(out, 0, refusal.number()),
     }
 }
 
@@ -215,9 +190,9 @@ pub fn put_answer(out: &mut [u8], answer: LineAnswer) -> usize
     match answer {
         LineAnswer::Began => text::put_byte(out, 0, b'\n'),
         LineAnswer::Install(said) => put_install(out, said),
-        LineAnswer::Open(said) => put_open(out, said),
+        LineAnswer::Open(said) => put_call(out, said),
         LineAnswer::Deliver(said) => put_deliver(out, said),
-        LineAnswer::Withdraw(said) => put_withdraw(out, said),
+        LineAnswer::Withdraw(said) => put_call(out, said),
         LineAnswer::Verdict(said) => put_report(out, said),
         LineAnswer::Malformed => answers::put_malformed(out, 0),
     }
@@ -227,13 +202,5 @@ pub fn put_answer(out: &mut [u8], answer: LineAnswer) -> usize
 pub fn is_malformed(answer: LineAnswer) -> bool
     ensures { result ≡ is_malformed (answer_means answer) }
 {
-    match answer {
-        LineAnswer::Began => false,
-        LineAnswer::Install(_) => false,
-        LineAnswer::Open(_) => false,
-        LineAnswer::Deliver(_) => false,
-        LineAnswer::Withdraw(_) => false,
-        LineAnswer::Verdict(_) => false,
-        LineAnswer::Malformed => true,
-    }
+    matches!(answer, LineAnswer::Malformed)
 }

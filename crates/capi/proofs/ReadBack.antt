@@ -17,7 +17,8 @@ use Rattle.calls.specs.Calls.{install_number, load_number, open_conditions, deli
 use Rattle.calls.specs.mirror.Steps.{lacks_rule, lacks_board, with_board, outcome_by, with_rule, runs_at, install_of, load_of, open_of, deliver_of, withdraw_of, report_of}
 use Rattle.histories.specs.History.{report_in}
 use Rattle.replay.specs.Records.{Recorded, calls, malformed_at, verdict, replay_of}
-use Rattle.capi.specs.Numbers.{read_shown, install_shown, call_shown, deliver_shown, kind_of, number_of, verdict_shown, replay_shown, read_read_back, install_read_back, call_read_back, deliver_read_back, judgement_back, verdict_read_back, replay_read_back}
+use Rattle.verdicts.specs.Shown.{kind_of, number_of}
+use Rattle.capi.specs.Numbers.{read_shown, install_shown, call_shown, deliver_shown, verdict_shown, replay_shown, read_read_back, install_read_back, call_read_back, deliver_read_back, judgement_back, verdict_read_back, replay_read_back}
 use Rattle.capi.specs.Claims.{Claims}
 
 -- of whatever number and rule a reading answers

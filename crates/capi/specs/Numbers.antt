@@ -6,8 +6,6 @@
 --   read_shown r                 what reading answers: the rule is all zeros where it is refused
 --   install_shown .. deliver_shown  an outcome as a result: of an installation and of a load, of
 --                                opening and of withdrawing, of a delivery
---   kind_of v, number_of v         a verdict: kind 0 refused, 1 waiting, 2 yes, 3 no, each with its
---                                number
 --   verdict_shown r              what the call verdict reports: its kind and number, and the bytes,
 --                                the quotient and the remainder beside them
 --   replay_shown t               the same for a recorded list; kind 4: the line of that number is
@@ -16,6 +14,7 @@
 -- No other reply is given to these calls; the lines for others are there so that every case has a
 -- value.
 use Rattle.std.specs.Prelude.{cond, ℕ, eqb}
+use Rattle.verdicts.specs.Shown.{kind_of, number_of}
 use Rattle.flags.specs.Flags.{flag_by, refused_by, refusal_by}
 use Rattle.ruleformat.specs.Reader.{Reading}
 use Rattle.calls.specs.Replies.{Judgement, waiting, yes_with, no_with, refused_with, Reported, Reply, accepted, installed, judged, refused, refusal_of, delivered, Outcome}
@@ -80,18 +79,6 @@ deliver_shown o = record {
 }
 
 -- ---- the verdict
-abbrev pub kind_of : Judgement → ℕ
-kind_of (refused_with number) = 0
-kind_of (waiting empty) = 1
-kind_of (yes_with count) = 2
-kind_of (no_with count) = 3
-
-abbrev pub number_of : Judgement → ℕ
-number_of (refused_with number) = number
-number_of (waiting empty) = empty
-number_of (yes_with count) = count
-number_of (no_with count) = count
-
 abbrev pub verdict_shown : Reported → VerdictNumbers
 verdict_shown r = record {
   kind = kind_of r.verdict;

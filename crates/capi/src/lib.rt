@@ -4,15 +4,13 @@
 
 ghost use Rattle.std.specs.Prelude.{◌≡◌, ◌+◌, ◌*◌};
 ghost use Rattle.ruleformat.specs.Reader.{read_of};
-ghost use Rattle.calls.specs.Replies.{verdict_means, report_means, install_outcome, call_outcome};
+ghost use Rattle.calls.specs.Replies.{report_means, install_outcome, call_outcome};
 ghost use Rattle.calls.specs.mirror.Steps.{fresh, install_of, load_of, open_of, deliver_of, withdraw_of, report_of};
 ghost use Rattle.replay.specs.Records.{record_in, replay_of};
-ghost use Rattle.capi.specs.Numbers.{read_shown, install_shown, call_shown, deliver_shown, kind_of, number_of, verdict_shown, replay_shown};
+ghost use Rattle.capi.specs.Numbers.{read_shown, install_shown, call_shown, deliver_shown, verdict_shown, replay_shown};
 
 use automaton::Rule;
-use build::BuildAnswer;
-use calls::{CallResult, DeliverAnswer, InstallResult, Judge, Report, Verdict};
-use replay::ReplayAnswer;
+use calls::{CallResult, InstallResult, Judge, Report, Verdict};
 
 // Accepted is 1 or 0; where it is 0, refused has the number, and every number of the rule is 0.
 #[repr(C)]
@@ -108,14 +106,20 @@ pub fn bellbadger_new() -> Judge
 pub fn bellbadger_read(file: &[u8]) -> ReadNumbers
     ensures { result ≡ read_shown (read_of file.now) }
 {
-    let reading = rulefile::read(file);
-    let answer = reading.answer;
-    let shown = flags::shown(answer);
-    let rule = reading.rule;
-    ReadNumbers {
-        accepted: shown.accepted,
-        refused: shown.refused,
-        rule,
+    match rulefile::read(file) {
+        Ok(rule) => ReadNumbers {
+            accepted: 1,
+            refused: 0,
+            rule,
+        },
+        Err(refusal) => {
+            let rule = rulefile::no_rule();
+            ReadNumbers {
+                accepted: 0,
+                refused: refusal.number(),
+                rule,
+            }
+        }
     }
 }
 
@@ -123,19 +127,18 @@ pub fn bellbadger_read(file: &[u8]) -> ReadNumbers
 fn install_numbers(res: InstallResult) -> InstallNumbers
     ensures { result ≡ install_shown (install_outcome res) }
 {
-    let answer = res.answer;
     let judge = res.judge;
-    match answer {
-        BuildAnswer::Accepted(sets, starts) => InstallNumbers {
+    match res.answer {
+        Ok(sizes) => InstallNumbers {
             accepted: 1,
             refused: 0,
-            sets,
-            starts,
+            sets: sizes.sets,
+            starts: sizes.starts,
             judge,
         },
-        BuildAnswer::Refused(refused) => InstallNumbers {
+        Err(refusal) => InstallNumbers {
             accepted: 0,
-            refused,
+            refused: refusal.number(),
             sets: 0,
             starts: 0,
             judge,
@@ -159,8 +162,7 @@ pub fn bellbadger_load(judge: Judge, file: &[u8]) -> InstallNumbers
 fn call_numbers(res: CallResult) -> CallNumbers
     ensures { result ≡ call_shown (call_outcome res) }
 {
-    let answer = res.answer;
-    let shown = flags::shown(answer);
+    let shown = flags::shown(res.answer);
     let judge = res.judge;
     CallNumbers {
         accepted: shown.accepted,
@@ -179,18 +181,17 @@ pub fn bellbadger_deliver(judge: Judge, place: usize, revision: u32, chunk: &[u8
     ensures { result ≡ deliver_shown (deliver_of judge place revision chunk.now) }
 {
     let delivery = judge::deliver(judge, place, revision, chunk);
-    let answer = delivery.answer;
     let judge = delivery.judge;
-    match answer {
-        DeliverAnswer::Accepted(looked) => DeliverNumbers {
+    match delivery.answer {
+        Ok(looked) => DeliverNumbers {
             accepted: 1,
             refused: 0,
             looked,
             judge,
         },
-        DeliverAnswer::Refused(refused) => DeliverNumbers {
+        Err(refusal) => DeliverNumbers {
             accepted: 0,
-            refused,
+            refused: refusal.number(),
             looked: 0,
             judge,
         },
@@ -203,37 +204,14 @@ pub fn bellbadger_withdraw(judge: Judge, place: usize) -> CallNumbers
     call_numbers(judge::withdraw(judge, place))
 }
 
-// Which of the four a verdict is, and the number that it has.
-fn kind_of(verdict: Verdict) -> u8
-    ensures { result ≡ kind_of (verdict_means verdict) }
-{
-    match verdict {
-        Verdict::Refused(_) => 0,
-        Verdict::Waiting(_) => 1,
-        Verdict::Yes(_) => 2,
-        Verdict::No(_) => 3,
-    }
-}
-
-fn number_of(verdict: Verdict) -> u64
-    ensures { result ≡ number_of (verdict_means verdict) }
-{
-    match verdict {
-        Verdict::Refused(x) => x as u64,
-        Verdict::Waiting(empty) => empty as u64,
-        Verdict::Yes(count) => count,
-        Verdict::No(count) => count,
-    }
-}
-
 // A report in the numbers that C is given.
 fn shown(report: Report) -> VerdictNumbers
     ensures { result ≡ verdict_shown (report_means report) }
 {
     let verdict = report.verdict;
     VerdictNumbers {
-        kind: kind_of(verdict),
-        number: number_of(verdict),
+        kind: verdicts::kind_of(verdict),
+        number: verdicts::number_of(verdict),
         bytes: report.bytes,
         quotient: report.quotient,
         remainder: report.remainder,
@@ -250,9 +228,8 @@ pub fn bellbadger_verdict(judge: Judge) -> VerdictNumbers
 pub fn bellbadger_replay(text: &[u8]) -> ReplayNumbers
     ensures { result ≡ replay_shown (replay_of (record_in text.now)) }
 {
-    let replayed = replay::replay(text);
-    match replayed {
-        ReplayAnswer::Verdict(report) => {
+    match replay::replay(text) {
+        Ok(report) => {
             let told = shown(report);
             ReplayNumbers {
                 kind: told.kind,
@@ -262,7 +239,7 @@ pub fn bellbadger_replay(text: &[u8]) -> ReplayNumbers
                 remainder: told.remainder,
             }
         }
-        ReplayAnswer::Malformed(line) => ReplayNumbers {
+        Err(line) => ReplayNumbers {
             kind: 4,
             number: line as u64,
             bytes: 0,

@@ -29,12 +29,10 @@ pub fn has_foreign(chunk: &[u8], k: u8) -> bool
     ensures { result ≡ foreign chunk.now k }
 {
     let mut found = false;
-    let mut i: usize = 0;
-    while i < chunk.len() {
-        if k <= chunk[i] {
+    for byte in chunk {
+        if k <= *byte {
             found = true;
         }
-        i += 1;
     }
     found
 }
@@ -43,15 +41,13 @@ pub fn has_foreign(chunk: &[u8], k: u8) -> bool
 pub fn start_mask(delegates: [u8; limits::STATES], n: u8) -> u32
     ensures { result ≡ start_set delegates (min n most_states) }
 {
-    let most = base::at_most_u8(n, limits::MOST_STATES);
+    let most = n.min(limits::MOST_STATES);
     let mut starts: u32 = 0;
-    let mut q: u8 = 0;
-    while q < most {
+    for q in 0..most {
         let i = q as usize;
         if delegates[i] == q {
             starts = masks::union(starts, masks::singleton(StateNumber(q)));
         }
-        q += 1;
     }
     starts
 }
@@ -71,14 +67,12 @@ fn delegate_single(delegates: &[u8; limits::STATES], q: StateNumber) -> u32
 pub fn delegate_mask(delegates: [u8; limits::STATES], n: u8, set: u32) -> u32
     ensures { result ≡ delegate_mask delegates n set }
 {
-    let most = base::at_most_u8(n, limits::MOST_STATES);
+    let most = n.min(limits::MOST_STATES);
     let mut out: u32 = 0;
-    let mut q: u8 = 0;
-    while q < most {
+    for q in 0..most {
         if masks::member(set, StateNumber(q)) {
             out = masks::union(out, delegate_single(&delegates, StateNumber(q)));
         }
-        q += 1;
     }
     out
 }
@@ -123,12 +117,10 @@ fn start_rows(singles: &[u16; limits::STATES], mask: u32) -> [usize; limits::STA
     ensures { result ≡ start_rows singles.now mask }
 {
     let mut rows = [lanes::EMPTY_ROW; limits::STATES];
-    let mut q: usize = 0;
-    while q < limits::STATES {
+    for (q, single) in singles.iter().enumerate() {
         if masks::member(mask, StateNumber(q as u8)) {
-            rows[q] = row_of(SetNumber(singles[q]));
+            rows[q] = row_of(SetNumber(*single));
         }
-        q += 1;
     }
     rows
 }
@@ -139,10 +131,8 @@ fn end_masks(sets: &[u32; limits::SETS], rows: [usize; limits::STATES]) -> [u32;
     ensures { result ≡ end_masks sets.now rows }
 {
     let mut ends = [0u32; limits::STATES];
-    let mut q: usize = 0;
-    while q < limits::STATES {
-        ends[q] = mask_of(sets, set_of(rows[q]));
-        q += 1;
+    for (q, row) in rows.iter().enumerate() {
+        ends[q] = mask_of(sets, set_of(*row));
     }
     ends
 }
@@ -153,10 +143,8 @@ fn summed(counts: [usize; limits::STATES]) -> usize
     ensures { result ≡ total (λ q. get_or counts q 0) most_states }
 {
     let mut count: usize = 0;
-    let mut q: usize = 0;
-    while q < limits::STATES {
-        count += counts[q];
-        q += 1;
+    for one in counts {
+        count += one;
     }
     count
 }

@@ -1,5 +1,7 @@
 -- One lemma over plain variables for each way out of `differs`, `which_of`, `search_pairs` and
 -- `compare`. Assumes nothing.
+use Rattle.std.proofs.Common.{Ok, Err, Some, None}
+use Rattle.std.specs.Option.{unwrap_or}
 use mathlib.Core.Path.{◌≡◌, refl, sym, ap, ◌∙◌}
 use mathlib.Core.Logic.{inl, inr}
 use mathlib.Core.Bool.{Bool, true, false, cond, not}
@@ -10,17 +12,16 @@ use native.Mathlib.Omega.{arith}
 use lib.ListN.{length, get_or, take}
 use lib.Seq.{get_or-take}
 use borrow.Author.Tests.{lt-ltb, le-ltb}
-use Rattle.base.specs.Answers.{answer_number}
+use Rattle.base.specs.declared.Refusal.{Refusal}
+use Rattle.base.specs.declared.Refusal.TheVariants.{OtherSymbols, TooManyPairs}
+use Rattle.base.specs.Answers.{refusal_number}
 use Rattle.automaton.specs.declared.Rule.{Rule}
 use Rattle.automaton.specs.Rules.{WellFormed}
-use Rattle.base.specs.declared.Answer.{Answer}
-use Rattle.base.specs.declared.Answer.TheVariants as check
 use Rattle.rulecheck.specs.Checking.{rule_number}
 use Rattle.rulecheck.proofs.Claims.{claims}
 use Rattle.keys.specs.declared.KeyTable.{KeyTable}
 use Rattle.keys.specs.declared.Kind.TheVariants.{Pairs}
-use Rattle.keys.specs.declared.Numbering.TheVariants.{Whole, Over}
-use Rattle.keys.specs.Tables.{held_by, table_outcome, table_by}
+use Rattle.keys.specs.Tables.{table_outcome, table_by}
 use Rattle.searches.specs.declared.Spelled.{Spelled}
 use Rattle.searches.specs.Search.{first_where, word_to}
 use Rattle.searches.specs.mirror.Tables.{Tabled, Spells}
@@ -28,7 +29,7 @@ use Rattle.searches.proofs.Searched as searched
 use Rattle.compare.specs.declared.Which.{Which}
 use Rattle.compare.specs.Compared as compared
 use Rattle.compare.specs.Compared.{pair_number}
-use Rattle.compare.specs.Values.{Outcome, apart, same, refused, no_text, outcome_of}
+use Rattle.compare.specs.Values.{compare_outcome, outcome_of}
 use Rattle.compare.specs.Search.{which_of, first_pair, reached_pairs, reached_table, test, first_pairs, found_first, told_apart, compare_of}
 use Rattle.compare.proofs.Conditions.{passed, Came, from_where}
 use Rattle.compare.proofs.Answers.{by_number, number_over, number-none, firsts-long, refused_first}
@@ -47,33 +48,26 @@ which_second p y a b e f = let g : p ≡ false = sym e ∙ f in rw g
 
 -- ---- the two are refused before the search
 module _ (one two : Rule) where
-  by_first : (o : Outcome) (x : ℕ) → Came one two x → o ≡ no_text (refused x) → o ≡ outcome_of (compare_of one two)
-  by_first o x e is = is ∙ sym (ap outcome_of (refused_first one two x ((from_where one two x).1 e)))
+  by_first : (e : Refusal) → Came one two (refusal_number e) → compare_outcome (Err e) ≡ outcome_of (compare_of one two)
+  by_first e came = sym (ap outcome_of (refused_first one two (refusal_number e) ((from_where one two (refusal_number e)).1 came)))
 
-  module _ (a : Answer) (said : answer_number a ≡ rule_number one) where
-    pub compare_first : (o : Outcome) (x : ℕ) → a ≡ check.Refused x → o ≡ no_text (refused x) → o ≡ outcome_of (compare_of one two)
-    compare_first o x e is = by_first o x (inl (sym said ∙ ap answer_number e)) is
+  pub compare_first : (e : Refusal) → rule_number one ≡ some (refusal_number e) → compare_outcome (Err e) ≡ outcome_of (compare_of one two)
+  compare_first e is = by_first e (inl is)
 
-    module _ (passed-one : a ≡ check.Accepted) (b : Answer) (told : answer_number b ≡ rule_number two) where
-      first-none : rule_number one ≡ none
-      first-none = sym said ∙ ap answer_number passed-one
+  module _ (passed-one : rule_number one ≡ none) where
+    pub compare_second : (e : Refusal) → rule_number two ≡ some (refusal_number e) → compare_outcome (Err e) ≡ outcome_of (compare_of one two)
+    compare_second e is = by_first e (inr (passed-one, inl is))
 
-      pub compare_second : (o : Outcome) (x : ℕ) → b ≡ check.Refused x → o ≡ no_text (refused x) → o ≡ outcome_of (compare_of one two)
-      compare_second o x e is = by_first o x (inr (first-none, inl (sym told ∙ ap answer_number e))) is
+    module _ (passed-two : rule_number two ≡ none) where
+      pub compare_36 : (one.k ≡ two.k → ⊥) → compare_outcome (Err OtherSymbols) ≡ outcome_of (compare_of one two)
+      compare_36 d = by_first OtherSymbols (inr (passed-one, inr (passed-two, refl, d)))
 
-      module _ (passed-two : b ≡ check.Accepted) where
-        second_none : rule_number two ≡ none
-        second_none = sym told ∙ ap answer_number passed-two
-
-        pub compare_36 : (o : Outcome) → (one.k ≡ two.k → ⊥) → o ≡ no_text (refused 36) → o ≡ outcome_of (compare_of one two)
-        compare_36 o d is = by_first o 36 (inr (first-none, inr (second_none, refl, d))) is
-
-        pub compare_both : WellFormed one × WellFormed two
-        compare_both = ((claims.passes one).0 first-none, (claims.passes two).0 second_none)
+      pub compare_both : WellFormed one × WellFormed two
+      compare_both = ((claims.passes one).0 passed-one, (claims.passes two).0 passed-two)
 
 -- ---- the search
 module _ (one two : Rule) (good : WellFormed one) (fine : WellFormed two) (alike : one.k ≡ two.k) (t : KeyTable)
-    (are : table_outcome t ≡ table_by Pairs one.targets two.targets one.k (first_pair one two)) (c : ℕ) (held : c ≡ held_by t.answer) where
+    (are : table_outcome t ≡ table_by Pairs one.targets two.targets one.k (first_pair one two)) (c : ℕ) (held : c ≡ unwrap_or t.count 512) where
   pass : pair_number one two ≡ none
   pass = (passed one two).1 (good, fine, alike)
 
@@ -97,7 +91,7 @@ module _ (one two : Rule) (good : WellFormed one) (fine : WellFormed two) (alike
     first-is = first ∙ ap (first_where (test one two)) keys_are
 
     pub search_text : (s : Spelled) (x : Which) → j < c → x ≡ which_of one.finals (get_or t.keys j 0) → Spells s (word_to t.next j)
-        → record { reply = apart x; length = s.length; text = s.text } ≡ outcome_of (compare_of one two)
+        → compare_outcome (Ok (Some (record { which = x; text = s }))) ≡ outcome_of (compare_of one two)
     search_text s x b is spelt =
         let told : told_apart one two ≡ true = lt-ltb (found_first one two) (length (first_pairs one two)) (omega (arith, count-is, first-is)) in
         let next : t.next ≡ reached_table one two =
@@ -115,17 +109,16 @@ module _ (one two : Rule) (good : WellFormed one) (fine : WellFormed two) (alike
       told_none : told_apart one two ≡ false
       told_none = le-ltb (found_first one two) (length (first_pairs one two)) (omega (arith, count-is, first-is))
 
-      pub search_over : (o : Outcome) → t.answer ≡ Over → o ≡ no_text (refused 45) → o ≡ outcome_of (compare_of one two)
-      search_over o e is =
+      pub search_over : t.count ≡ None → compare_outcome (Err TooManyPairs) ≡ outcome_of (compare_of one two)
+      search_over e =
           let over = searched.over_many Pairs one.targets two.targets one.k (first_pair one two) good.symbols.1 t are e in
-          is
-          ∙ sym
+          sym
           (ap outcome_of
           (by_number one two (some 45) (number_over one two pass (rw told_none (lt-ltb 512 (length (reached_pairs one two)) over)))))
 
-      pub search_same : (o : Outcome) (n : ℕ) → t.answer ≡ Whole n → o ≡ no_text same → o ≡ outcome_of (compare_of one two)
-      search_same o n e is =
+      pub search_same : (n : ℕ) → t.count ≡ Some n → compare_outcome (Ok None) ≡ outcome_of (compare_of one two)
+      search_same n e =
           let few = searched.few Pairs one.targets two.targets one.k (first_pair one two) good.symbols.1 t are n e in
           let f : compared.same ≡ compare_of one two =
           rw (by_number one two none (number-none one two pass (rw told_none (le-ltb 512 (length (reached_pairs one two)) few))), told_none) in
-          is ∙ ap outcome_of f
+          ap outcome_of f

@@ -1,20 +1,21 @@
 -- How an answer is carried by value.
 --
---   Reply, answer_means  which of the answers it is, and what each case of the code's says
---   Outcome              the answer, the length of the text and the text; and what the code's
---   compare_outcome      result stands for
+--   Reply                which of the answers it is
+--   Outcome              the answer, the length of the text and the text; and what each case of the
+--   compare_outcome      code's result stands for
 --   word_of a, reply_of a  the text of the answer a, empty where there is none; and which answer it is
 --   Carries a o          the value o carries the answer a, in the words of the request: the text with
 --                        its length and zeros after it; where there is none, the length 0 and zeros
 --   outcome_of a         the value that does
 --   comparison_in o      the answer that a value tells
-use Rattle.std.specs.Prelude.{◌≡◌, List, [], ℕ, ◌≤◌, ◌<◌, get_or, take, replicate}
+use Rattle.std.specs.Prelude as code
+use Rattle.std.specs.Prelude.{Result, Ok, Err, Some, None, ◌≡◌, List, [], ℕ, ◌≤◌, ◌<◌, get_or, take, replicate}
 use Rattle.std.proofs.Math.ListN as ListN
+use Rattle.base.specs.declared.Refusal.{Refusal}
+use Rattle.base.specs.Answers.{refusal_number}
 use Rattle.searches.specs.Texts.{longest_text, text_cells}
 use Rattle.compare.specs.declared.Which.{Which}
-use Rattle.compare.specs.declared.CompareAnswer.{CompareAnswer}
-use Rattle.compare.specs.declared.CompareAnswer.TheVariants.{Apart, Same, Refused}
-use Rattle.compare.specs.declared.CompareResult.{CompareResult}
+use Rattle.compare.specs.declared.Apart.{Apart}
 use Rattle.compare.specs.Compared as compared
 use Rattle.compare.specs.Compared.{Comparison}
 
@@ -23,18 +24,10 @@ pub data Reply : Type 0 where
   same : Reply
   refused : ℕ → Reply
 
-abbrev pub answer_means : CompareAnswer → Reply
-answer_means (Apart which) = apart which
-answer_means Same = same
-answer_means (Refused number) = refused number
-
 pub record Outcome : Type 0 where
   pub reply : Reply
   pub length : ℕ
   pub text : List ℕ
-
-abbrev pub compare_outcome : CompareResult → Outcome
-compare_outcome r = record { reply = answer_means r.answer; length = r.length; text = r.text }
 
 abbrev pub word_of : Comparison → List ℕ
 word_of (compared.apart which w) = w
@@ -55,6 +48,11 @@ pub record Carries (a : Comparison) (o : Outcome) : Type 0 where
 
 abbrev pub no_text : Reply → Outcome
 no_text reply = record { reply = reply; length = 0; text = replicate longest_text 0 }
+
+abbrev pub compare_outcome : Result (code.Option Apart) Refusal → Outcome
+compare_outcome (Ok (Some a)) = record { reply = apart a.which; length = a.text.length; text = a.text.text }
+compare_outcome (Ok None) = no_text same
+compare_outcome (Err refusal) = no_text (refused (refusal_number refusal))
 
 abbrev pub outcome_of : Comparison → Outcome
 outcome_of (compared.apart which w) = record { reply = apart which; length = ListN.length w; text = text_cells w }

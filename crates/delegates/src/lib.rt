@@ -3,8 +3,8 @@
 // stands for the empty set, and so does any number above it in the next-set table.
 #![tactic(auto)]
 
-ghost use Rattle.std.specs.Prelude.{◌≡◌, ◌≤◌, ◌<◌, length};
-ghost use Rattle.limits.specs.Limits.{most_states, most_symbols, empty_set, most_classes};
+ghost use Rattle.std.specs.Prelude.{◌≡◌, ◌≤◌, ◌<◌};
+ghost use Rattle.limits.specs.Limits.{most_states, most_symbols, empty_set};
 ghost use Rattle.delegates.specs.Alike.{delegate_in};
 ghost use Rattle.delegates.specs.mirror.Answer.{delegate_means};
 ghost use Rattle.delegates.specs.mirror.Classes.{final, follow as follow_of, single_at, starts_of};
@@ -40,14 +40,6 @@ pub fn delegate_at(delegates: &[u8; limits::STATES], q: StateNumber) -> Delegate
     } else {
         DelegateAnswer::None
     }
-}
-
-// An array has its length: this only says so, and is compiled to nothing.
-fn cells(class: &[u16; limits::CLASSES]) -> usize
-    ensures { length class.now ≡ most_classes }
-{
-    let s: &[u16] = class;
-    s.len()
 }
 
 // Whether the set holds a final state.
@@ -103,8 +95,7 @@ fn same(
     if f != g {
         return false;
     }
-    let mut a: usize = 0;
-    while a < k {
+    for a in 0..k {
         let x = follow(next, t, a);
         let y = follow(next, s, a);
         let u = x.0 as usize;
@@ -112,13 +103,13 @@ fn same(
         if class[u] != class[v] {
             return false;
         }
-        a += 1;
     }
     true
 }
 
 // The class of set s in the next round. No set below its class in this one is in it, so the search
-// starts there: over all rounds a set passes each lower one once.
+// starts there: over all rounds a set passes each lower one once. Not a range: of any classes, one
+// may lie above s, and is the answer then.
 fn least(
     sets: &[u32; limits::SETS],
     next: &[u16; limits::CELLS],
@@ -154,10 +145,8 @@ fn round(
     ensures { (new.new ≡ round_of sets.now next.now finals k class.now)
         × (result ≡ changes sets.now next.now finals k class.now) }
 {
-    cells(new);
     let mut changed = false;
-    let mut s: u16 = 0;
-    while s <= limits::EMPTY {
+    for s in 0..=limits::EMPTY {
         let i = s as usize;
         let to = least(sets, next, finals, k, class, SetNumber(s));
         let from = class[i];
@@ -165,7 +154,6 @@ fn round(
         if from != to.0 {
             changed = true;
         }
-        s += 1;
     }
     changed
 }
@@ -214,15 +202,13 @@ fn lowest(own: &[u16; limits::STATES], q: StateNumber) -> StateNumber
 {
     let j = q.0 as usize;
     let class = own[j];
-    let mut p: u8 = 0;
-    while p < q.0 {
+    for p in 0..q.0 {
         let i = p as usize;
         if own[i] == class {
             return StateNumber(p);
         }
-        p += 1;
     }
-    StateNumber(p)
+    q
 }
 
 // The delegate of q as a list of delegates says it: none where the class of q is that of the empty
@@ -251,15 +237,14 @@ pub fn merge_starts(
 ) -> Starts
     ensures { result ≡ starts_of sets.now next.now finals singles.now n k }
 {
-    let states = base::at_most_u8(n, limits::MOST_STATES) as usize;
-    let symbols = base::at_most_u8(k, limits::MOST_SYMBOLS) as usize;
+    let states = n.min(limits::MOST_STATES) as usize;
+    let symbols = k.min(limits::MOST_SYMBOLS) as usize;
     let class = refine(sets, next, finals, symbols);
     let empty = class[limits::SETS];
     let mut own: [u16; limits::STATES] = [0; limits::STATES];
     let mut delegates: [u8; limits::STATES] = [0; limits::STATES];
     let mut starts: u8 = 0;
-    let mut q: usize = 0;
-    while q < states {
+    for q in 0..states {
         let set = single(singles, StateNumber(q as u8));
         let x = set.0 as usize;
         own[q] = class[x];
@@ -268,7 +253,6 @@ pub fn merge_starts(
         if delegate as usize == q {
             starts += 1;
         }
-        q += 1;
     }
     Starts {
         delegates,

@@ -5,31 +5,10 @@
 ghost use Rattle.std.specs.Prelude.{◌≡◌, ◌≤◌, length};
 ghost use Rattle.limits.specs.Limits.{longest_chunk};
 ghost use Rattle.marks.specs.Marks.{text_of};
-ghost use Rattle.deliveries.specs.mirror.Attempts.{refused_with, attempt_means, attempt_of};
+ghost use Rattle.deliveries.specs.mirror.Attempts.{attempt_means, attempt_of};
 
-use calls::DeliverAnswer;
+use base::Refusal;
 use chunks::Runs;
-
-// The answer, and the runs: zeros where it is a refusal.
-#[derive(Clone, Copy)]
-pub struct Attempt {
-    pub answer: DeliverAnswer,
-    pub runs: Runs,
-}
-
-fn refuse_text(number: u8) -> Attempt
-    ensures { attempt_means result ≡ refused_with number }
-{
-    let answer = DeliverAnswer::Refused(number);
-    let ends = [0u32; limits::STATES];
-    let runs = Runs {
-        ends,
-        count: 0,
-        bytes: 0,
-        looked: 0,
-    };
-    Attempt { answer, runs }
-}
 
 // A text, run from the states of the mask, where each of its bytes is below k and its revision does
 // not come late.
@@ -41,19 +20,17 @@ fn run_text<'a>(
     k: u8,
     late: bool,
     text: &[u8],
-) -> Attempt
+) -> Result<Runs, Refusal>
     requires { length text.now ≤ longest_chunk }
     ensures { attempt_means result ≡ attempt_of sets.now next.now singles.now mask k late text.now }
 {
     if chunks::has_foreign(text, k) {
-        return refuse_text(13);
+        return Err(Refusal::ForeignByte);
     }
     if late {
-        return refuse_text(22);
+        return Err(Refusal::NotDue);
     }
-    let runs = chunks::run_chunk(sets, next, singles, mask, text);
-    let answer = DeliverAnswer::Accepted(runs.looked);
-    Attempt { answer, runs }
+    Ok(chunks::run_chunk(sets, next, singles, mask, text))
 }
 
 // The text of a chunk with idle marks: it is packed once, and run from there.
@@ -65,7 +42,7 @@ fn run_marked<'a>(
     k: u8,
     late: bool,
     chunk: &[u8],
-) -> Attempt
+) -> Result<Runs, Refusal>
     requires { length chunk.now ≤ longest_chunk }
     ensures { attempt_means result ≡ attempt_of sets.now next.now singles.now mask k late (text_of chunk.now) }
 {
@@ -83,7 +60,7 @@ pub fn run_delivery<'a>(
     k: u8,
     late: bool,
     chunk: &[u8],
-) -> Attempt
+) -> Result<Runs, Refusal>
     requires { length chunk.now ≤ longest_chunk }
     ensures { attempt_means result ≡ attempt_of sets.now next.now singles.now mask k late (text_of chunk.now) }
 {

@@ -26,11 +26,11 @@
 -- Texts.antt. A list has the last call first. A proved function ends and stays within its bounds.
 -- Assumes nothing.
 -- All that they rest on stands in these files of specs/ (tests/believed):
---   base Conditions, Lists, Options, Totals; limits Limits; masks Masks; automaton Automaton,
---   Rules; rulecheck Checking; ruleformat Format, Language, Refusals; numbering Claims, Order,
---   Texts; delegates Alike; marks Marks; chunks Chunks, Counting; board Boards; calls Calls,
---   Claims, Replies; executions Executions; histories Claims, Functions, History, Method;
---   transcripts Answers, Claims, Runs, Standing; capi Numbers; demands Functions.
+--   base Answers, Conditions, Lists, Options, Totals; limits Limits; masks Masks; automaton
+--   Automaton, Rules; rulecheck Checking; ruleformat Format, Language, Refusals; numbering
+--   Claims, Order, Texts; delegates Alike; marks Marks; chunks Chunks, Counting; board Boards;
+--   calls Calls, Claims, Replies; executions Executions; histories Claims, Functions, History,
+--   Method; transcripts Answers, Claims, Runs, Standing; capi Numbers; demands Functions.
 use mathlib.Core.Path.{◌≡◌, refl, sym, ◌∙◌}
 use mathlib.Core.Logic.{◌↔◌, ◌⊎◌, ⊎_elim}
 use mathlib.Core.List.{List, [], ◌∷◌, ◌++◌}

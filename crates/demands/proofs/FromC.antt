@@ -14,8 +14,8 @@
 --   Successor; rulecheck Checking; ruleformat Format, Reader, Refusals; numbering Numbering;
 --   subsets Sets, mirror/Singles; delegates Alike, Claims, mirror/Classes; build mirror/Building;
 --   marks Marks; walks mirror/Steps; chunks Chunks, mirror/Walks; board Boards; joins Joining;
---   calls Calls, Replies, mirror/Steps; replay Records; capi Laws, Numbers; demands Functions,
---   Shown.
+--   calls Calls, Replies, mirror/Steps; verdicts Shown; replay Records; capi Laws, Numbers;
+--   demands Functions, Shown.
 use mathlib.Core.Path.{◌≡◌}
 use mathlib.Core.Logic.{◌↔◌}
 use mathlib.Core.List.{List}

@@ -15,14 +15,14 @@
 --
 -- A list of calls has the last call first. Assumes nothing.
 -- All that they rest on stands in these files of specs/ (tests/believed):
---   base Conditions, Lists, Options, Totals; limits Limits; masks Masks; automaton Automaton,
---   Rules, Successor; rulecheck Checking, Claims; ruleformat Format, Language, Reader, Refusals;
---   numbering Claims, Numbering, Order, Texts; subsets Claims, Sets, mirror/Singles; delegates
---   Alike, Claims, mirror/Classes; build mirror/Building; marks Marks; walks mirror/Steps; chunks
---   Chunks, Counting, mirror/Walks; board Boards; joins Joining; calls Calls, Claims, Replies,
---   mirror/Steps; executions Executions, Last; histories Claims, Conditions, Empties, Functions,
---   History, Last, Method; transcripts Agreement, Runs, Standing; capi Numbers; demands
---   Functions.
+--   base Answers, Conditions, Lists, Options, Totals; limits Limits; masks Masks; automaton
+--   Automaton, Rules, Successor; rulecheck Checking, Claims; ruleformat Format, Language, Reader,
+--   Refusals; numbering Claims, Numbering, Order, Texts; subsets Claims, Sets, mirror/Singles;
+--   delegates Alike, Claims, mirror/Classes; build mirror/Building; marks Marks; walks
+--   mirror/Steps; chunks Chunks, Counting, mirror/Walks; board Boards; joins Joining; calls
+--   Calls, Claims, Replies, mirror/Steps; executions Executions, Last; histories Claims,
+--   Conditions, Empties, Functions, History, Last, Method; transcripts Agreement, Runs, Standing;
+--   capi Numbers; demands Functions.
 use mathlib.Core.Path.{◌≡◌, ◌∙◌}
 use mathlib.Core.Logic.{◌↔◌, ◌⊎◌, ⊎_elim}
 use mathlib.Core.Bool.{true, false}

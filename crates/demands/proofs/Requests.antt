@@ -15,9 +15,9 @@
 --
 -- A list of calls has the last call first. Assumes nothing.
 -- All that they rest on stands in these files of specs/ (tests/believed):
---   base Conditions, Lists, Options, Totals; limits Limits; masks Masks; automaton Automaton,
---   Rules, Successor; rulecheck Checking; ruleformat Claims, Format, Language, Reader, Refusals;
---   numbering Numbering; subsets Sets, mirror/Singles; delegates Alike, Claims, Fewest,
+--   base Answers, Conditions, Lists, Options, Totals; limits Limits; masks Masks; automaton
+--   Automaton, Rules, Successor; rulecheck Checking; ruleformat Claims, Format, Language, Reader,
+--   Refusals; numbering Numbering; subsets Sets, mirror/Singles; delegates Alike, Claims, Fewest,
 --   mirror/Classes; build mirror/Building; marks Marks; walks mirror/Steps; chunks Chunks,
 --   Counting, mirror/Walks; board Boards; joins Former, Joining; calls Calls, Claims, Replies,
 --   mirror/Steps; executions Executions; histories Claims, CountBound, Fewest, FormerStarts,

@@ -2,9 +2,9 @@
 -- it names: `Tabled`, `AsTabled` and `cases` (histories/specs/TableP), the libraries (histories/,
 -- demands/specs/Functions). A list of calls has the last call first. Assumes nothing.
 -- All that they rest on stands in these files of specs/ (tests/believed):
---   base Conditions, Lists; limits Limits; masks Masks; rulecheck Checking; ruleformat Format,
---   Reader, Refusals, Worked; calls Calls, Replies; executions Executions; histories Functions,
---   TableP; capi Numbers; demands Functions.
+--   base Answers, Conditions, Lists; limits Limits; masks Masks; rulecheck Checking; ruleformat
+--   Format, Reader, Refusals, Worked; calls Calls, Replies; executions Executions; histories
+--   Functions, TableP; capi Numbers; demands Functions.
 use Rattle.histories.specs.Functions.{judge_library}
 use Rattle.histories.specs.TableP.{Tabled, Each, cases}
 use Rattle.histories.proofs.Refinement.{judge_meets}

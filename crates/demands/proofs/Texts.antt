@@ -27,13 +27,13 @@
 --   ruleformat Format, Reader, Refusals, Writing; numbering Numbering; subsets Sets,
 --   mirror/Singles; delegates Alike, Claims, mirror/Classes; live Continued, Live; build
 --   mirror/Building; marks Marks; walks mirror/Steps; chunks Chunks, mirror/Walks; board Boards;
---   joins Joining; calls Calls, Replies, mirror/Steps; diagnoses Diagnosing; locating Locating,
---   Positions, mirror/Pruning; histories History; losses Answers, Losses, Spots; fields Bytes,
---   Claims, Numbers, Worked; lines Claims, Splitting; packed Claims, Packed; calltext Answers,
---   Claims, Meaning, Worked; questions Answers, Claims, Meaning, Worked; callrun Running;
---   longlines Holding; linetexts Beginnings, Claims, Feeding, Functions, Lists, Parts; linebuffer
---   Meanings; stream Texts, Worked; replay Claims, Records; capi Numbers; demands Functions,
---   TextFunctions.
+--   joins Joining; calls Calls, Replies, mirror/Steps; verdicts Shown; diagnoses Diagnosing;
+--   locating Locating, Positions, mirror/Pruning; histories History; losses Answers, Losses,
+--   Spots; fields Bytes, Claims, Numbers, Worked; lines Claims, Splitting; packed Claims, Packed;
+--   calltext Answers, Claims, Meaning, Worked; questions Answers, Claims, Meaning, Worked;
+--   callrun Running; longlines Holding; linetexts Beginnings, Claims, Feeding, Functions, Lists,
+--   Parts; linebuffer Meanings; stream Texts, Worked; replay Claims, Records; capi Numbers;
+--   demands Functions, TextFunctions.
 use mathlib.Core.Path.{◌≡◌}
 use mathlib.Core.Logic.{◌↔◌}
 use mathlib.Core.Bool.{false}

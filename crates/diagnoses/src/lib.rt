@@ -5,15 +5,15 @@
 
 ghost use Rattle.std.specs.Prelude.{◌≡◌, suc, ◌≤◌, eqb, get_or};
 ghost use Rattle.limits.specs.Limits.{most_places};
-ghost use Rattle.diagnoses.specs.Diagnosing.{diagnosis_means, find_from, lost_after, diagnosis_of};
+ghost use Rattle.diagnoses.specs.Diagnosing.{finding_means, diagnosis_means, find_from, lost_after, diagnosis_of};
 
+use base::Refusal;
 use calls::Judge;
 
 // Lost at the place; or not lost, with the number of places that are filled before the first empty
 // one.
-#[derive(Clone, Copy)]
+#[derive(Clone, Copy, Debug, PartialEq, Eq)]
 pub enum Diagnosis {
-    Refused(u8),
     Lost(u8),
     Open(u8),
 }
@@ -28,12 +28,11 @@ fn find_loss<'a>(
     places: usize,
 ) -> Diagnosis
     requires { places ≤ most_places }
-    ensures { diagnosis_means result ≡ find_from (λ p. eqb (get_or filled.now p 0) 0) (λ p. lost_after ends.now delegates n initials (suc p)) 0 places }
+    ensures { finding_means result ≡ find_from (λ p. eqb (get_or filled.now p 0) 0) (λ p. lost_after ends.now delegates n initials (suc p)) 0 places }
 {
-    let states = base::at_most_u8(n, limits::MOST_STATES);
+    let states = n.min(limits::MOST_STATES);
     let mut set = initials;
-    let mut place: usize = 0;
-    while place < places {
+    for place in 0..places {
         if filled[place] == 0 {
             return Diagnosis::Open(place as u8);
         }
@@ -41,28 +40,27 @@ fn find_loss<'a>(
         if chunks::delegate_mask(delegates, n, set) == 0 {
             return Diagnosis::Lost(place as u8);
         }
-        place += 1;
     }
-    Diagnosis::Open(place as u8)
+    Diagnosis::Open(places as u8)
 }
 
 // Where the trace is lost, or how far it is there.
-pub fn diagnose(judge: Judge) -> Diagnosis
+pub fn diagnose(judge: Judge) -> Result<Diagnosis, Refusal>
     ensures { diagnosis_means result ≡ diagnosis_of judge }
 {
     let board = judge.board;
     if board.places == 0 {
-        return Diagnosis::Refused(21);
+        return Err(Refusal::NoBoard);
     }
     let built = judge.built;
     let delegates = built.delegates;
     let places = board::places_of(board.places);
-    find_loss(
+    Ok(find_loss(
         &board.filled,
         &board.ends,
         delegates,
         built.n,
         built.initials,
         places,
-    )
+    ))
 }

@@ -2,9 +2,9 @@
 // was made with another. A guard against mistakes, not against attackers.
 #![tactic(auto)]
 
-ghost use Rattle.std.specs.Prelude.{◌≡◌, ◌≤◌, length};
-ghost use Rattle.limits.specs.Limits.{most_states, most_sets};
-ghost use Rattle.digests.specs.Digests.{half_step, digest_step, digest_from, first_cells, digest_of};
+ghost use Rattle.std.specs.Prelude.{◌≡◌, ℕ, List};
+ghost use Rattle.std.specs.List.{AllZip};
+ghost use Rattle.digests.specs.Digests.{half_step, digest_step, digest_from, digest_of};
 
 use build::Built;
 
@@ -25,45 +25,13 @@ fn with_number(digest: u64, number: u64) -> u64
     with_half(low, number / 65536)
 }
 
-// The digest with the delegates of all states.
-fn with_delegates(digest: u64, delegates: &[u8; limits::STATES]) -> u64
-    ensures { result ≡ digest_from digest (first_cells delegates.now most_states) }
-{
-    let cells: &[u8] = delegates;
-    let mut next = digest;
-    let mut i: usize = 0;
-    while i < limits::STATES {
-        next = with_number(next, cells[i] as u64);
-        i += 1;
-    }
-    next
-}
-
-// The digest with the first cells of an array of sets' numbers.
-fn with_cells(digest: u64, cells: &[u16], count: usize) -> u64
-    requires { count ≤ length cells.now }
-    ensures { result ≡ digest_from digest (first_cells cells.now count) }
+// The digest with the numbers of a slice.
+fn with_numbers<T: Copy + Into<u64>>(digest: u64, cells: &[T]) -> u64
+    ensures { (numbers : List ℕ) × AllZip T.converts cells.now numbers × (result ≡ digest_from digest numbers) }
 {
     let mut next = digest;
-    let mut i: usize = 0;
-    while i < count {
-        next = with_number(next, cells[i] as u64);
-        i += 1;
-    }
-    next
-}
-
-// The digest with the masks of the first sets.
-fn with_masks(digest: u64, sets: &[u32; limits::SETS], count: usize) -> u64
-    requires { count ≤ most_sets }
-    ensures { result ≡ digest_from digest (first_cells sets.now count) }
-{
-    let cells: &[u32] = sets;
-    let mut next = digest;
-    let mut i: usize = 0;
-    while i < count {
-        next = with_number(next, cells[i] as u64);
-        i += 1;
+    for &cell in cells {
+        next = with_number(next, cell.into());
     }
     next
 }
@@ -83,10 +51,10 @@ pub fn digest(built: Built) -> u64
     ensures { result ≡ digest_of built }
 {
     let start = head(built.n, built.k, built.initials, built.finals);
-    let own = with_delegates(start, &built.delegates);
-    let singles = with_cells(own, &built.singles, limits::STATES);
+    let own = with_numbers(start, &built.delegates);
+    let singles = with_numbers(own, &built.singles);
     let counted = with_number(singles, built.setcount as u64);
-    let count = base::at_most(built.setcount as usize, limits::SETS);
-    let sets = with_masks(counted, &built.sets, count);
-    with_cells(sets, &built.next, count * limits::SYMBOLS)
+    let count = (built.setcount as usize).min(limits::SETS);
+    let sets = with_numbers(counted, &built.sets[..count]);
+    with_numbers(sets, &built.next[..count * limits::SYMBOLS])
 }

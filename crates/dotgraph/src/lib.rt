@@ -45,10 +45,8 @@ fn put_states(out: &mut [u8], start: usize, finals: u32, n: u8) -> usize
         × (result ≤ start + 25 * n) }
 {
     let mut at = start;
-    let mut q: u8 = 0;
-    while q < n {
+    for q in 0..n {
         at = put_state(out, at, finals, StateNumber(q));
-        q += 1;
     }
     at
 }
@@ -107,10 +105,8 @@ fn put_initials(out: &mut [u8], start: usize, initials: u32, n: u8) -> usize
         × (result ≤ start + 30 * n) }
 {
     let mut at = start;
-    let mut q: u8 = 0;
-    while q < n {
+    for q in 0..n {
         at = put_initial(out, at, initials, StateNumber(q));
-        q += 1;
     }
     at
 }
@@ -174,10 +170,8 @@ fn put_targets(
         × (result ≤ start + 69 * n) }
 {
     let mut at = start;
-    let mut t: u8 = 0;
-    while t < n {
+    for t in 0..n {
         at = put_target(out, at, targets, k, q, StateNumber(t));
-        t += 1;
     }
     at
 }
@@ -191,10 +185,8 @@ fn put_arrows(out: &mut [u8], start: usize, targets: &[u32; limits::TARGETS], n:
         × (result ≤ start + 69 * most_states * n) }
 {
     let mut at = start;
-    let mut q: u8 = 0;
-    while q < n {
+    for q in 0..n {
         at = put_targets(out, at, targets, n, k, StateNumber(q));
-        q += 1;
     }
     at
 }
@@ -205,8 +197,8 @@ pub fn put_dot(out: &mut [u8], rule: Rule) -> usize
     ensures { (Wrote out.old 0 (dot_text rule) out.new result)
         × (result ≤ most_bytes) }
 {
-    let n = base::at_most_u8(rule.n, limits::MOST_STATES);
-    let k = base::at_most_u8(rule.k, limits::MOST_SYMBOLS);
+    let n = rule.n.min(limits::MOST_STATES);
+    let k = rule.k.min(limits::MOST_SYMBOLS);
     let targets = rule.targets;
     let a = put_head(out, 0);
     let b = put_states(out, a, rule.finals, n);

@@ -72,12 +72,10 @@ pub fn any_below(
     requires { (k ≤ most_symbols) × (q.0 < most_states) × (t.0 < most_states) }
     ensures { result ≡ any_below (leadsBy targets.now k q.0 t.0) end }
 {
-    let mut s: u8 = 0;
-    while s < end {
+    for s in 0..end {
         if leads(targets, k, q, t, s) {
             return true;
         }
-        s += 1;
     }
     false
 }
@@ -165,10 +163,8 @@ pub fn put_label(
         × (result ≤ start + 3 * k) }
 {
     let mut at = start;
-    let mut s: u8 = 0;
-    while s < k {
+    for s in 0..k {
         at = put_piece(out, at, targets, k, q, t, s);
-        s += 1;
     }
     at
 }

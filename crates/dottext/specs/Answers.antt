@@ -7,22 +7,22 @@
 --   reply_for f    the length of that drawing; or the number, 1 to 8, with which the reader refuses
 --   Draws f ..     that is said, and the drawing stands at the start of the buffer; what lies past
 --                  it is left as it was
-use Rattle.std.specs.Prelude.{◌≡◌, List, [], ◌++◌, ℕ, length, drop}
+use Rattle.std.specs.Prelude.{Result, Ok, Err, ◌≡◌, List, [], ◌++◌, ℕ, length, drop}
 use Rattle.std.proofs.Math.Option.{Option, none, some}
+use Rattle.base.specs.declared.Refusal.{Refusal}
+use Rattle.base.specs.Answers.{refusal_number}
 use Rattle.automaton.specs.declared.Rule.{Rule}
 use Rattle.ruleformat.specs.Refusals.{refusal}
 use Rattle.ruleformat.specs.Reader.{rule_of}
-use Rattle.dottext.specs.declared.Drawing.{Drawing}
-use Rattle.dottext.specs.declared.Drawing.TheVariants.{Bytes, Refused}
 use Rattle.dotgraph.specs.DotText.{dot_text}
 
 pub data DrawingReply : Type 0 where
   drawn : ℕ → DrawingReply
   refused : ℕ → DrawingReply
 
-abbrev pub drawing_means : Drawing → DrawingReply
-drawing_means (Bytes n) = drawn n
-drawing_means (Refused number) = refused number
+abbrev pub drawing_means : Result ℕ Refusal → DrawingReply
+drawing_means (Ok n) = drawn n
+drawing_means (Err refusal) = refused (refusal_number refusal)
 
 abbrev pub drawing_by : Option ℕ → Rule → List ℕ
 drawing_by none r = dot_text r
@@ -38,6 +38,6 @@ reply_by (some number) r = refused number
 abbrev pub reply_for : List ℕ → DrawingReply
 reply_for f = reply_by (refusal f) (rule_of f)
 
-pub record Draws (f before after : List ℕ) (r : Drawing) : Type 0 where
+pub record Draws (f before after : List ℕ) (r : Result ℕ Refusal) : Type 0 where
   pub answer : drawing_means r ≡ reply_for f
   pub buffer : after ≡ drawing_for f ++ drop (length (drawing_for f)) before

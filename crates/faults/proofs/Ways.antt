@@ -8,6 +8,8 @@
 --   lost_or_short, none_lost, short_next, only_short, not_full   all columns
 --   fault_found, fault_open                the ways out beyond the rows
 --   fault_21, fault_row, fault_beyond      those of the whole
+use Rattle.std.specs.Prelude as code
+use Rattle.std.proofs.Common.{Some, None}
 use mathlib.Core.Path.{◌≡◌, refl, sym, ap, ap₂, ◌∙◌}
 use mathlib.Core.Bool.{Bool, true, false, cond, not}
 use mathlib.Core.List.{List}
@@ -27,12 +29,8 @@ use Rattle.trays.specs.Rows.{rows_of, rows_up_to, column_of}
 use Rattle.trays.specs.Boards.{width_of, bands_of, count_in, band_in, band_rows, is_empty}
 use Rattle.trayverdict.proofs.Walks.{column_on}
 use Rattle.faults.specs.declared.TrayFault.{TrayFault}
-use Rattle.faults.specs.declared.Found.{Found}
-use Rattle.faults.specs.declared.Found.TheVariants.{At, Nothing}
-use Rattle.faults.specs.declared.Walk.{Walk}
-use Rattle.faults.specs.declared.Walk.TheVariants.{Lost, Ends}
 use Rattle.faults.specs.First.{or_else, or_then, first_found}
-use Rattle.faults.specs.Faulting.{Finding, refused_as, column_at, short_at, open_with, fault_means, found_means, stuck, reaches, walk_means, way_by, rows_wrong, band_stuck, band_on, column_stuck, column_short, empty_at, before_empty, columns_by, beyond_rows, fault_of}
+use Rattle.faults.specs.Faulting.{Finding, refused_as, column_at, short_at, open_with, finding_means, found_means, Way, stuck, reaches, way_by, rows_wrong, band_stuck, band_on, column_stuck, column_short, empty_at, before_empty, columns_by, beyond_rows, fault_of}
 use Rattle.faults.proofs.First.{first_next, first_more, first_here}
 
 -- ---- before the first empty band
@@ -54,36 +52,24 @@ module _ (filled : List ℕ) (n p : ℕ) where
 
 -- ---- a search by its answers
 module _ (g : ℕ → Option Finding) (n p : ℕ) (before : first_found g p ≡ none) where
-  pub answer_found : p < n → (o : Found) → found_means o ≡ g p → (f : TrayFault) → o ≡ At f → some (fault_means f) ≡ first_found g n
-  answer_found l o is f e = sym (first_here g n p (fault_means f) l before (sym is ∙ rw e))
+  pub answer_found : p < n → (f : Finding) → some f ≡ g p → some f ≡ first_found g n
+  answer_found l f is = sym (first_here g n p f l before (sym is))
 
-  pub answer_none : (o : Found) → found_means o ≡ g p → o ≡ Nothing → first_found g (p + 1) ≡ none
-  answer_none o is e = first_more g p before (sym is ∙ rw e)
+  pub answer_none : none ≡ g p → first_found g (p + 1) ≡ none
+  answer_none is = first_more g p before (sym is)
 
   pub all_done : p ≤ n → n ≤ p → none ≡ first_found g n
   all_done k l = let e : p ≡ n = omega arith in sym (ap (first_found g) (sym e) ∙ before)
 
 -- ---- a column that is walked
-module _ (y : Walk) (o : Option Finding) (m : ℕ) (is : walk_means y ≡ way_by o m) where
-  stuck_by : (f : Finding) → stuck f ≡ way_by o m → o ≡ some f
-  stuck_by f e = told o e
-    where
-      told : (u : Option Finding) → stuck f ≡ way_by u m → u ≡ some f
-      told none z = zero_one cc
-      told (some x) z = let same : f ≡ x = cc in ap some (sym same)
+module _ (m : ℕ) where
+  pub way_stuck : (o : Option Finding) (f : Finding) → stuck f ≡ way_by o m → o ≡ some f
+  way_stuck none f z = zero_one cc
+  way_stuck (some x) f z = let same : f ≡ x = cc in ap some (sym same)
 
-  ends_by : (s : ℕ) → reaches s ≡ way_by o m → (o ≡ none) × (s ≡ m)
-  ends_by s e = told o e
-    where
-      told : (u : Option Finding) → reaches s ≡ way_by u m → (u ≡ none) × (s ≡ m)
-      told none z = (refl, cc)
-      told (some x) z = zero_one cc
-
-  pub way_stuck : (f : TrayFault) → y ≡ Lost f → o ≡ some (fault_means f)
-  way_stuck f e = stuck_by (fault_means f) (ap walk_means (sym e) ∙ is)
-
-  pub way_ends : (s : ℕ) → y ≡ Ends s → (o ≡ none) × (s ≡ m)
-  way_ends s e = ends_by s (ap walk_means (sym e) ∙ is)
+  pub way_ends : (o : Option Finding) (s : ℕ) → reaches s ≡ way_by o m → (o ≡ none) × (s ≡ m)
+  way_ends none s z = (refl, cc)
+  way_ends (some x) s z = zero_one cc
 
 module _ (ts : List ℕ) (live c m : ℕ) (at : ℕ → List (List ℕ)) (n : ℕ) (x : Bool) (meets : x ≡ shares m live) where
   pub lost_first : not x ≡ true → (last : ℕ) → stuck (column_at c 0 0) ≡ way_by (column_stuck ts live c m at n) last
@@ -99,21 +85,21 @@ module _ (ts : List ℕ) (live c m : ℕ) (at : ℕ → List (List ℕ)) (n : �
 
 -- one band more
 pub band_walked : (ts : List ℕ) (live c m w : ℕ) (rows cells : List ℕ) (p x : ℕ) → x ≡ after ts m (column_of c (rows_up_to (band_in w rows cells) p))
-    → (n : ℕ) → n ≡ count_in rows p → (y : Walk)
-    → walk_means y
+    → (n : ℕ) → n ≡ count_in rows p → (y : Way)
+    → y
     ≡ way_by (band_stuck ts live c x p (rows_of w n (drop (p * 1024) cells))) (after ts x (column_of c (rows_of w n (drop (p * 1024) cells))))
-    → walk_means y ≡ way_by (band_on ts live c m (band_in w rows cells) p) (after ts m (column_of c (rows_up_to (band_in w rows cells) (p + 1))))
+    → y ≡ way_by (band_on ts live c m (band_in w rows cells) p) (after ts m (column_of c (rows_up_to (band_in w rows cells) (p + 1))))
 band_walked ts live c m w rows cells p x before n count y is =
     is
     ∙ ap₂ way_by (ap₂ (λ (s k : ℕ). band_stuck ts live c s p (rows_of w k (drop (p * 1024) cells))) before count)
     (column_on ts m c w rows cells p x before n count _ refl)
 
 -- ---- a column that stopped too early
-module _ (o : Found) where
-  pub short_was : (f : TrayFault) (u : Option Finding) → o ≡ At f → found_means (At f) ≡ or_else (found_means o) u
+module _ (o : code.Option TrayFault) where
+  pub short_was : (f : TrayFault) (u : Option Finding) → o ≡ Some f → found_means (Some f) ≡ or_else (found_means o) u
   short_was f u e = rw e
 
-  module _ (c set finals : ℕ) (x : Bool) (meets : x ≡ shares set finals) (e : o ≡ Nothing) where
+  module _ (c set finals : ℕ) (x : Bool) (meets : x ≡ shares set finals) (e : o ≡ None) where
     pub short_not : x ≡ true → none ≡ or_else (found_means o) (cond (shares set finals) none (some (short_at c)))
     short_not t = rw (e, ← meets, t)
 
@@ -125,24 +111,26 @@ module _ (r : Rule) (at : ℕ → List (List ℕ)) (w n : ℕ) where
   abbrev pub stuck_at : ℕ → Option Finding
   stuck_at c = column_stuck r.targets (live_of r) c r.initials at n
 
-  module _ (c : ℕ) (before : first_found stuck_at c ≡ none) (live : ℕ) (lives : live ≡ live_of r) (y : Walk)
-      (walked : walk_means y ≡ way_by (column_stuck r.targets live c r.initials at n) (after r.targets r.initials (column_of c (rows_up_to at n)))) where
-    is : walk_means y ≡ way_by (stuck_at c) (after r.targets r.initials (column_of c (rows_up_to at n)))
-    is = walked ∙ ap (λ (x : ℕ). way_by (column_stuck r.targets x c r.initials at n) (after r.targets r.initials (column_of c (rows_up_to at n)))) lives
+  module _ (c : ℕ) (before : first_found stuck_at c ≡ none) (live : ℕ) (lives : live ≡ live_of r) where
+    is : (y : Way) → y ≡ way_by (column_stuck r.targets live c r.initials at n) (after r.targets r.initials (column_of c (rows_up_to at n)))
+        → y ≡ way_by (stuck_at c) (after r.targets r.initials (column_of c (rows_up_to at n)))
+    is y walked = walked ∙ ap (λ (x : ℕ). way_by (column_stuck r.targets x c r.initials at n) (after r.targets r.initials (column_of c (rows_up_to at n)))) lives
 
-    pub lost_or_short : c < w → (f : TrayFault) → y ≡ Lost f → (full : Bool) → some (fault_means f) ≡ columns_by r at w n full
-    lost_or_short l f e full =
-        let o = first_here stuck_at w c (fault_means f) l before (way_stuck y (stuck_at c) (after r.targets r.initials (column_of c (rows_up_to at n))) is f e) in
+    pub lost_or_short : c < w → (f : Finding)
+        → stuck f ≡ way_by (column_stuck r.targets live c r.initials at n) (after r.targets r.initials (column_of c (rows_up_to at n)))
+        → (full : Bool) → some f ≡ columns_by r at w n full
+    lost_or_short l f walked full =
+        let o = first_here stuck_at w c f l before (way_stuck (after r.targets r.initials (column_of c (rows_up_to at n))) (stuck_at c) f (is (stuck f) walked)) in
         rw o
 
-    module _ (s : ℕ) (e : y ≡ Ends s) where
+    module _ (s : ℕ) (walked : reaches s ≡ way_by (column_stuck r.targets live c r.initials at n) (after r.targets r.initials (column_of c (rows_up_to at n)))) where
       ends : (stuck_at c ≡ none) × (s ≡ after r.targets r.initials (column_of c (rows_up_to at n)))
-      ends = way_ends y (stuck_at c) (after r.targets r.initials (column_of c (rows_up_to at n))) is s e
+      ends = way_ends (after r.targets r.initials (column_of c (rows_up_to at n))) (stuck_at c) s (is (reaches s) walked)
 
       pub none_lost : first_found stuck_at (c + 1) ≡ none
       none_lost = first_more stuck_at c before ends.0
 
-      pub short_next : (o u : Found) → found_means o ≡ first_found (column_short r at n) c
+      pub short_next : (o u : code.Option TrayFault) → found_means o ≡ first_found (column_short r at n) c
           → found_means u ≡ or_else (found_means o) (cond (shares s r.finals) none (some (short_at c)))
           → found_means u ≡ first_found (column_short r at n) (c + 1)
       short_next o u so_far here =
@@ -157,7 +145,7 @@ module _ (r : Rule) (at : ℕ → List (List ℕ)) (w n : ℕ) where
         let nothing : first_found stuck_at w ≡ none = ap (first_found stuck_at) (sym same) ∙ before in
         rw (nothing, e)
 
-    pub only_short : (o : Found) → found_means o ≡ first_found (column_short r at n) c → full ≡ true → found_means o ≡ columns_by r at w n full
+    pub only_short : (o : code.Option TrayFault) → found_means o ≡ first_found (column_short r at n) c → full ≡ true → found_means o ≡ columns_by r at w n full
     only_short o short e =
         let same : c ≡ w = omega arith in
         short ∙ ap (first_found (column_short r at n)) same ∙ all true e
@@ -167,15 +155,15 @@ module _ (r : Rule) (at : ℕ → List (List ℕ)) (w n : ℕ) where
 
 -- ---- beyond the rows
 module _ (r : Rule) (w : ℕ) (at : ℕ → List (List ℕ)) (empty : ℕ → Bool) (n m : ℕ) (before : m ≡ before_empty empty n)
-    (o : Found) (is : found_means o ≡ columns_by r at w m (eqb m n)) where
+    (o : code.Option TrayFault) (is : found_means o ≡ columns_by r at w m (eqb m n)) where
   given : found_means o ≡ columns_by r at w (before_empty empty n) (eqb (before_empty empty n) n)
   given = is ∙ ap (λ (x : ℕ). columns_by r at w x (eqb x n)) before
 
-  pub fault_found : (f : TrayFault) → o ≡ At f → fault_means f ≡ beyond_rows r w at empty n
+  pub fault_found : (f : TrayFault) → o ≡ Some f → finding_means f ≡ beyond_rows r w at empty n
   fault_found f e =
       ap (λ (u : Option Finding). or_then u (open_with (before_empty empty n))) (sym (ap found_means e) ∙ given)
 
-  pub fault_open : o ≡ Nothing → open_with m ≡ beyond_rows r w at empty n
+  pub fault_open : o ≡ None → open_with m ≡ beyond_rows r w at empty n
   fault_open e =
       ap open_with before ∙ ap (λ (u : Option Finding). or_then u (open_with (before_empty empty n))) (sym (ap found_means e) ∙ given)
 
@@ -185,23 +173,22 @@ module _ (t : Tray) where
   unfolding fault_of
   fault_21 z = rw (eq-eqb t.board.bands 0 z)
 
-  module _ (there : t.board.bands ≡ 0 → ⊥) (w n : ℕ) (width : w ≡ width_of t.board) (bands : n ≡ bands_of t.board)
-      (o : Found) (is : found_means o ≡ rows_wrong t.row (band_in w t.board.rows t.board.cells) n) where
-    rows_are : found_means o ≡ rows_wrong t.row (band_rows t.board) (bands_of t.board)
-    rows_are = is ∙ ap₂ (λ (x m : ℕ). rows_wrong t.row (band_in x t.board.rows t.board.cells) m) width bands
+  module _ (there : t.board.bands ≡ 0 → ⊥) (w n : ℕ) (width : w ≡ width_of t.board) (bands : n ≡ bands_of t.board) where
+    rows_are : (o : Option Finding) → o ≡ rows_wrong t.row (band_in w t.board.rows t.board.cells) n
+        → o ≡ rows_wrong t.row (band_rows t.board) (bands_of t.board)
+    rows_are o is = is ∙ ap₂ (λ (x m : ℕ). rows_wrong t.row (band_in x t.board.rows t.board.cells) m) width bands
 
-    pub fault_row : (f : TrayFault) → o ≡ At f → fault_means f ≡ fault_of t
+    pub fault_row : (f : Finding) → some f ≡ rows_wrong t.row (band_in w t.board.rows t.board.cells) n → f ≡ fault_of t
     unfolding fault_of
-    fault_row f e =
-        let found : rows_wrong t.row (band_rows t.board) (bands_of t.board) ≡ some (fault_means f) = sym rows_are ∙ ap found_means e in
+    fault_row f is =
+        let found : rows_wrong t.row (band_rows t.board) (bands_of t.board) ≡ some f = sym (rows_are (some f) is) in
         rw (ne_eqb t.board.bands 0 there, found)
 
-    pub fault_beyond : o ≡ Nothing → (f : TrayFault)
-        → fault_means f ≡ beyond_rows t.column w (band_in w t.board.rows t.board.cells) (is_empty t.board) n
-        → fault_means f ≡ fault_of t
+    pub fault_beyond : none ≡ rows_wrong t.row (band_in w t.board.rows t.board.cells) n → (f : Finding)
+        → f ≡ beyond_rows t.column w (band_in w t.board.rows t.board.cells) (is_empty t.board) n → f ≡ fault_of t
     unfolding fault_of
-    fault_beyond e f beyond =
-        let nothing : rows_wrong t.row (band_rows t.board) (bands_of t.board) ≡ none = sym rows_are ∙ ap found_means e in
+    fault_beyond is f beyond =
+        let nothing : rows_wrong t.row (band_rows t.board) (bands_of t.board) ≡ none = sym (rows_are none is) in
         beyond
         ∙ ap₂ (λ (x m : ℕ). beyond_rows t.column x (band_in x t.board.rows t.board.cells) (is_empty t.board) m) width bands
         ∙ sym (rw (ne_eqb t.board.bands 0 there, nothing))

@@ -8,7 +8,8 @@
 --     column_at c b i        column c is lost with row i of band b
 --     short_at c              column c is not accepted, though it could go on
 --     open_with m            none of these, and m bands stand before the first empty one
---   fault_means              what each case of the code's answer says
+--   finding_means            what each case of the code's fault says
+--   fault_means              what the code's answer says
 --   found_means, Way, walk_means  the same of the code's answers on the way: a finding or nothing; a
 --                            column is lost, or the set after its rows
 --   way_by o m               the column is lost with the finding o, or the set after it is m
@@ -24,8 +25,11 @@
 --   fault_by ..              what is found: by whether no board is there, the two rules, the width,
 --                            the rows of each band, which are empty, and how many there are
 --   fault_of t               what is found in the state t
-use Rattle.std.specs.Prelude.{Bool, cond, List, [], ℕ, suc, eqb, length, get_or, take}
+use Rattle.std.specs.Prelude as code
+use Rattle.std.specs.Prelude.{Result, Ok, Err, Some, None, Bool, cond, List, [], ℕ, suc, eqb, length, get_or, take}
 use Rattle.std.proofs.Math.Option.{Option, none, some}
+use Rattle.base.specs.declared.Refusal.{Refusal}
+use Rattle.base.specs.Answers.{refusal_number}
 use Rattle.masks.specs.Masks.{shares}
 use Rattle.automaton.specs.declared.Rule.{Rule}
 use Rattle.automaton.specs.Successor.{after}
@@ -35,11 +39,7 @@ use Rattle.trays.specs.Rows.{rows_up_to, column_of, accepted}
 use Rattle.trays.specs.Boards.{width_of, bands_of, band_rows, is_empty}
 use Rattle.trays.specs.mirror.Steps.{lacks_board}
 use Rattle.faults.specs.declared.TrayFault.{TrayFault}
-use Rattle.faults.specs.declared.TrayFault.TheVariants.{Refused, Row, Column, Short, Open}
-use Rattle.faults.specs.declared.Found.{Found}
-use Rattle.faults.specs.declared.Found.TheVariants.{At, Nothing}
-use Rattle.faults.specs.declared.Walk.{Walk}
-use Rattle.faults.specs.declared.Walk.TheVariants.{Lost, Ends}
+use Rattle.faults.specs.declared.TrayFault.TheVariants.{Row, Column, Short, Open}
 use Rattle.faults.specs.First.{or_else, or_then, first_found}
 
 pub data Finding : Type 0 where
@@ -50,24 +50,27 @@ pub data Finding : Type 0 where
   open_with : ℕ → Finding
 
 -- ---- what the code's answers say
-abbrev pub fault_means : TrayFault → Finding
-fault_means (Refused number) = refused_as number
-fault_means (Row band row) = row_at band row
-fault_means (Column column band row) = column_at column band row
-fault_means (Short column) = short_at column
-fault_means (Open bands) = open_with bands
+abbrev pub finding_means : TrayFault → Finding
+finding_means (Row band row) = row_at band row
+finding_means (Column column band row) = column_at column band row
+finding_means (Short column) = short_at column
+finding_means (Open bands) = open_with bands
 
-abbrev pub found_means : Found → Option Finding
-found_means (At fault) = some (fault_means fault)
-found_means Nothing = none
+abbrev pub fault_means : Result TrayFault Refusal → Finding
+fault_means (Ok fault) = finding_means fault
+fault_means (Err refusal) = refused_as (refusal_number refusal)
+
+abbrev pub found_means : code.Option TrayFault → Option Finding
+found_means None = none
+found_means (Some fault) = some (finding_means fault)
 
 pub data Way : Type 0 where
   stuck : Finding → Way
   reaches : ℕ → Way
 
-abbrev pub walk_means : Walk → Way
-walk_means (Lost fault) = stuck (fault_means fault)
-walk_means (Ends set) = reaches set
+abbrev pub walk_means : Result ℕ TrayFault → Way
+walk_means (Ok set) = reaches set
+walk_means (Err fault) = stuck (finding_means fault)
 
 abbrev pub way_by : Option Finding → ℕ → Way
 way_by none m = reaches m

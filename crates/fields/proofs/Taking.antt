@@ -11,8 +11,6 @@ use native.Mathlib.Omega.{arith}
 use lib.ListN.{length, take, length-take}
 use Rattle.base.proofs.Options.{none-some}
 use Rattle.text.proofs.Fitting.{taken}
-use Rattle.fields.specs.declared.Bytes.{Bytes}
-use Rattle.fields.specs.declared.Bytes.TheVariants.{Put, Malformed}
 use Rattle.fields.specs.Bytes.{parse_bytes, TookOf, Took}
 
 -- the field says bytes, and the first n of the buffer are those that fit
@@ -32,15 +30,15 @@ not_by : (o : Option (List ℕ)) (before after : List ℕ) → TookOf o before n
 not_by none before after t = refl
 not_by (some b) before after t = none-some refl t.1
 
-module _ (field before after : List ℕ) (x : Bytes) (took : Took field before x after) where
-  pub carries : (n : ℕ) → x ≡ Put n → Carries (parse_bytes field) before after n
-  carries n e = carries_by (parse_bytes field) before after n (subst (λ (y : Bytes). Took field before y after) e took)
+module _ (field before after : List ℕ) (x : Option ℕ) (took : Took field before x after) where
+  pub carries : (n : ℕ) → x ≡ some n → Carries (parse_bytes field) before after n
+  carries n e = carries_by (parse_bytes field) before after n (subst (λ (y : Option ℕ). Took field before y after) e took)
 
-  pub not_bytes : x ≡ Malformed → parse_bytes field ≡ none
-  not_bytes e = not_by (parse_bytes field) before after (subst (λ (y : Bytes). Took field before y after) e took)
+  pub not_bytes : x ≡ none → parse_bytes field ≡ none
+  not_bytes e = not_by (parse_bytes field) before after (subst (λ (y : Option ℕ). Took field before y after) e took)
 
-  pub put_prefix : (n : ℕ) → x ≡ Put n → n ≡ length (take n after)
+  pub put_prefix : (n : ℕ) → x ≡ some n → n ≡ length (take n after)
   put_prefix n e = let k = carries n e in k.size ∙ sym (ap length k.is)
 
-  pub put_within : (n : ℕ) → x ≡ Put n → n ≤ length after
+  pub put_within : (n : ℕ) → x ≡ some n → n ≤ length after
   put_within n e = omega (arith, put_prefix n e, length-take n after)

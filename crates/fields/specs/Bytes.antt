@@ -6,15 +6,11 @@
 --   pairs w        the bytes that the pairs of hex digits w stand for, the high digit first
 --   is_bytes w     the field w is pairs of hex digits, at least one
 --   parse_bytes w     the bytes that the field w says, if it says bytes
---   bytes_means r   how many bytes each case of the code's answer says were put, if it was no
---                   refusal
 --   Took           what reading the field w into a lent buffer does: the bytes go to its beginning,
---                  as many as fit; a refusal changes nothing
+--                  as many as fit, and are counted; a refusal changes nothing
 use Rattle.std.specs.Prelude.{◌≡◌, Bool, true, cond, ◌&&◌, List, [], ◌∷◌, ℕ, ◌+◌, ◌*◌, ◌-◌, ◌%◌, eqb, leb, ltb, length, take, get_or}
 use Rattle.std.proofs.Math.Option.{Option, none, some}
 use Rattle.text.specs.Writing.{Wrote}
-use Rattle.fields.specs.declared.Bytes.{Bytes}
-use Rattle.fields.specs.declared.Bytes.TheVariants.{Put, Malformed}
 
 abbrev pub within : ℕ → ℕ → ℕ → Bool
 within low high c = leb low c && leb c high
@@ -42,13 +38,9 @@ is_no_bytes w = eqb (length w) 1 && eqb (get_or w 0 0) 45
 unfoldable pub parse_bytes : List ℕ → Option (List ℕ)
 parse_bytes w = cond (is_no_bytes w) (some []) (cond (is_bytes w) (some (pairs w)) none)
 
-abbrev pub bytes_means : Bytes → Option ℕ
-bytes_means (Put n) = some n
-bytes_means Malformed = none
-
 abbrev pub TookOf : Option (List ℕ) → List ℕ → Option ℕ → List ℕ → Type 0
 TookOf none before said after = (said ≡ none) × (after ≡ before)
 TookOf (some bytes) before said after = (n : ℕ) × (said ≡ some n) × Wrote before 0 (take (length before) bytes) after n
 
-abbrev pub Took : List ℕ → List ℕ → Bytes → List ℕ → Type 0
-Took w before r after = TookOf (parse_bytes w) before (bytes_means r) after
+abbrev pub Took : List ℕ → List ℕ → Option ℕ → List ℕ → Type 0
+Took w before said after = TookOf (parse_bytes w) before said after

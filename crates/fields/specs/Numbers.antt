@@ -5,12 +5,9 @@
 --   value_of w      the value of the digits w, the highest first
 --   is_number w     the field w is such a number
 --   parse_number w    the number that the field w says, if it is one
---   number_means r  what each case of the code's answer says
 use Rattle.std.specs.Prelude.{Bool, true, cond, ◌&&◌, List, [], ◌∷◌, ℕ, ◌+◌, ◌*◌, ◌-◌, leb, length}
 use Rattle.std.proofs.Math.Option.{Option, none, some}
 use Rattle.limits.specs.Limits.{largest_number, most_digits}
-use Rattle.fields.specs.declared.Number.{Number}
-use Rattle.fields.specs.declared.Number.TheVariants.{Value, Malformed}
 
 unfoldable pub all_digits : List ℕ → Bool
 all_digits [] = true
@@ -29,7 +26,3 @@ is_number w = leb 1 (length w) && (leb (length w) most_digits && (all_digits w &
 
 abbrev pub parse_number : List ℕ → Option ℕ
 parse_number w = cond (is_number w) (some (value_of w)) none
-
-abbrev pub number_means : Number → Option ℕ
-number_means (Value v) = some v
-number_means Malformed = none

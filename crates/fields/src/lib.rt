@@ -3,57 +3,41 @@
 
 ghost use Rattle.std.specs.Prelude.{◌≡◌, true, length, take};
 ghost use Rattle.text.specs.Writing.{Wrote};
-ghost use Rattle.fields.specs.Numbers.{number_means, parse_number};
+ghost use Rattle.base.specs.Options.{option_of};
+ghost use Rattle.fields.specs.Numbers.{parse_number};
 ghost use Rattle.fields.specs.Bytes.{hex_value, all_hex, pairs, Took};
-
-// The number that a field says, or that it says none.
-#[derive(Clone, Copy)]
-pub enum Number {
-    Value(u64),
-    Malformed,
-}
 
 // A larger value has no room for a digit more.
 const TENTH: u64 = limits::NUMBER / 10;
 
-// A field of 1 to 20 decimal digits with a value that 64 bits hold.
-pub fn read_number(field: &[u8]) -> Number
-    ensures { number_means result ≡ parse_number field.now }
+// The number that a field says, which is 1 to 20 decimal digits with a value that 64 bits hold.
+pub fn read_number(field: &[u8]) -> Option<u64>
+    ensures { option_of result ≡ parse_number field.now }
 {
     if field.len() == 0 {
-        return Number::Malformed;
+        return None;
     }
     if limits::DIGITS < field.len() {
-        return Number::Malformed;
+        return None;
     }
     let mut value: u64 = 0;
-    let mut i: usize = 0;
-    while i < field.len() {
-        let c = field[i];
+    for &c in field {
         if c < 48 {
-            return Number::Malformed;
+            return None;
         }
         if 57 < c {
-            return Number::Malformed;
+            return None;
         }
         let digit = (c - 48) as u64;
         if TENTH < value {
-            return Number::Malformed;
+            return None;
         }
         if limits::NUMBER - 10 * value < digit {
-            return Number::Malformed;
+            return None;
         }
         value = 10 * value + digit;
-        i += 1;
     }
-    Number::Value(value)
-}
-
-// How many bytes a field says that were put into the buffer, or that it says none.
-#[derive(Clone, Copy)]
-pub enum Bytes {
-    Put(usize),
-    Malformed,
+    Some(value)
 }
 
 // The value of a hex digit of either case; 16 for any other byte.
@@ -85,12 +69,10 @@ pub fn hex_value(c: u8) -> u8
 pub fn all_hex(field: &[u8]) -> bool
     ensures { result ≡ all_hex field.now }
 {
-    let mut i: usize = 0;
-    while i < field.len() {
-        if 16 <= hex_value(field[i]) {
+    for byte in field {
+        if 16 <= hex_value(*byte) {
             return false;
         }
-        i += 1;
     }
     true
 }
@@ -100,40 +82,38 @@ fn put_pairs(field: &[u8], out: &mut [u8]) -> usize
     requires { all_hex field.now ≡ true }
     ensures { Wrote out.old 0 (take (length out.old) (pairs field.now)) out.new result }
 {
-    let mut i: usize = 0;
-    while i < out.len() {
+    for i in 0..out.len() {
         if field.len() - 2 * i < 2 {
             return i;
         }
         let high = hex_value(field[2 * i]);
         let low = hex_value(field[2 * i + 1]);
         out[i] = 16 * high + low;
-        i += 1;
     }
-    i
+    out.len()
 }
 
 // A field of one or more pairs of hex digits, or `-` for no bytes. The bytes that it says are put
-// into the buffer, as many as fit; what lies past them stays, and so does the whole of it where the
-// field is malformed.
-pub fn read_bytes(field: &[u8], out: &mut [u8]) -> Bytes
-    ensures { Took field.now out.old result out.new }
+// into the buffer, as many as fit, and counted; what lies past them stays, and so does the whole of
+// it where the field is malformed.
+pub fn read_bytes(field: &[u8], out: &mut [u8]) -> Option<usize>
+    ensures { Took field.now out.old (option_of result) out.new }
 {
     if field.len() == 1 {
         if field[0] == 45 {
-            return Bytes::Put(0);
+            return Some(0);
         }
-        return Bytes::Malformed;
+        return None;
     }
     if field.len() == 0 {
-        return Bytes::Malformed;
+        return None;
     }
     if field.len() % 2 == 1 {
-        return Bytes::Malformed;
+        return None;
     }
     if all_hex(field) {
-        Bytes::Put(put_pairs(field, out))
+        Some(put_pairs(field, out))
     } else {
-        Bytes::Malformed
+        None
     }
 }

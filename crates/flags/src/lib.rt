@@ -3,10 +3,10 @@
 #![tactic(auto)]
 
 ghost use Rattle.std.specs.Prelude.{◌≡◌};
-ghost use Rattle.base.specs.Answers.{answer_number};
+ghost use Rattle.base.specs.Answers.{result_number};
 ghost use Rattle.flags.specs.Flags.{flag_by, refused_by, bit_by};
 
-use base::Answer;
+use base::Refusal;
 
 // Accepted is 1 or 0; where it is 0, refused has the number, else it is 0.
 #[derive(Clone, Copy)]
@@ -26,17 +26,17 @@ pub fn bit(test: bool) -> u8
 }
 
 // The fields of an answer.
-pub fn shown(answer: Answer) -> AnswerFlags
-    ensures { (result.accepted ≡ flag_by (answer_number answer)) × (result.refused ≡ refused_by (answer_number answer)) }
+pub fn shown(answer: Result<(), Refusal>) -> AnswerFlags
+    ensures { (result.accepted ≡ flag_by (result_number answer)) × (result.refused ≡ refused_by (result_number answer)) }
 {
     match answer {
-        Answer::Accepted => AnswerFlags {
+        Ok(()) => AnswerFlags {
             accepted: 1,
             refused: 0,
         },
-        Answer::Refused(refused) => AnswerFlags {
+        Err(refusal) => AnswerFlags {
             accepted: 0,
-            refused,
+            refused: refusal.number(),
         },
     }
 }

@@ -17,13 +17,12 @@ use Rattle.automaton.specs.Successor.{successor}
 use Rattle.automaton.proofs.Laws.{successor_foreign}
 use Rattle.rulecheck.specs.Checking.{rule_number}
 use Rattle.rulecheck.proofs.Claims as check
-use Rattle.ruleformat.specs.Reader.{no_rule}
 use Rattle.chunks.specs.Chunks.{foreign}
 use Rattle.chunks.specs.Taking.{chunk_number}
 use Rattle.chunks.proofs.Claims as chunks
 use Rattle.follow.specs.declared.Follower.{Follower}
 use Rattle.live.specs.Live.{live_of}
-use Rattle.follow.specs.Following.{next_by, Walk, way_of, Outcome, refused_follow, walk_by, walk_of, taken_by, lent_of, follow_of, follower_of, no_follower, Prepared, prepare_by, prepare_of, follow_by_of}
+use Rattle.follow.specs.Following.{next_by, Walk, way_of, Outcome, refused_follow, walk_by, walk_of, taken_by, lent_of, follow_of, follower_of, no_follower, prepare_by, prepare_of, follow_by_of}
 use Rattle.follow.specs.Claims.{PreparedSo}
 use Rattle.follow.proofs.Numbers.{first-is, then_is}
 
@@ -49,24 +48,21 @@ module _ (ts : List ℕ) (live m : ℕ) where
       ap (λ (x : ℕ). next_by ts live x m) e ∙ on_and_on (k - 16) ∙ ap (λ (x : ℕ). next_by ts live x m) z)
 
 -- ---- by the parts of a rule
-module _ (ts : List ℕ) (finals live k m : ℕ) (w : List ℕ) (o : Outcome) where
-  by_chunk : (n : Option ℕ) → chunk_number k w ≡ n → o ≡ taken_by n (walk_by ts finals live k m w) → o ≡ lent_of ts finals live k m w
-  by_chunk n e is = is ∙ sym (ap (λ (x : Option ℕ). taken_by x (walk_by ts finals live k m w)) e)
+module _ (ts : List ℕ) (finals live k m : ℕ) (w : List ℕ) where
+  by_chunk : (n : Option ℕ) → chunk_number k w ≡ n → taken_by n (walk_by ts finals live k m w) ≡ lent_of ts finals live k m w
+  by_chunk n e = sym (ap (λ (x : Option ℕ). taken_by x (walk_by ts finals live k m w)) e)
 
-  pub long : 65536 < length w → o ≡ refused_follow 12 → o ≡ lent_of ts finals live k m w
-  long h is = by_chunk (some 12) (((chunks.claims).taking k w).number_12.1 h) is
+  pub long : 65536 < length w → refused_follow 12 ≡ lent_of ts finals live k m w
+  long h = by_chunk (some 12) (((chunks.claims).taking k w).number_12.1 h)
 
-  pub strange : length w ≤ 65536 → foreign (text_of w) k ≡ true → o ≡ refused_follow 13 → o ≡ lent_of ts finals live k m w
-  strange h f is = by_chunk (some 13) (((chunks.claims).taking k w).number_13.1 (h, f)) is
+  pub strange : length w ≤ 65536 → foreign (text_of w) k ≡ true → refused_follow 13 ≡ lent_of ts finals live k m w
+  strange h f = by_chunk (some 13) (((chunks.claims).taking k w).number_13.1 (h, f))
 
   pub whole : length w ≤ 65536 → foreign (text_of w) k ≡ false → (y : Walk) → y ≡ way_of ts live m w
       → (ends complete : Bool) (expected : ℕ) → expected ≡ next_by ts live k y.before → ends ≡ shares y.set finals → complete ≡ shares y.before finals
-      → o ≡ record { refusal = none; set = y.set; ends = ends; lost = y.lost; expected = expected; complete = complete }
-      → o ≡ lent_of ts finals live k m w
-  whole h f y is ends complete expected is-expected is-ends is-complete e =
-      by_chunk none (((chunks.claims).taking k w).taken.1 (h, f))
-      (e
-      ∙ rw (is-expected, is-ends, is-complete)
+      → record { refusal = none; set = y.set; ends = ends; lost = y.lost; expected = expected; complete = complete } ≡ lent_of ts finals live k m w
+  whole h f y is ends complete expected is-expected is-ends is-complete =
+      rw (is-expected, is-ends, is-complete)
       (ap
       (λ (x : Walk). record {
         refusal = none;
@@ -76,13 +72,14 @@ module _ (ts : List ℕ) (finals live k m : ℕ) (w : List ℕ) (o : Outcome) wh
         expected = next_by ts live k x.before;
         complete = shares x.before finals;
       })
-      is))
+      is)
+      ∙ by_chunk none (((chunks.claims).taking k w).taken.1 (h, f))
 
 -- ---- by a rule
 module _ (r : Rule) (m : ℕ) (w : List ℕ) where
-  pub unchecked : (o : Outcome) (x : ℕ) → rule_number r ≡ some x → o ≡ refused_follow x → o ≡ follow_of r m w
+  pub unchecked : (x : ℕ) → rule_number r ≡ some x → refused_follow x ≡ follow_of r m w
   unfolding follow_of
-  unchecked o x e is = is ∙ sym (ap (λ (n : Option ℕ). taken_by n (walk_of r m w)) (first-is r w x e))
+  unchecked x e = sym (ap (λ (n : Option ℕ). taken_by n (walk_of r m w)) (first-is r w x e))
 
   pub checked : rule_number r ≡ none → (live : ℕ) → live ≡ live_of r → lent_of r.targets r.finals live r.k m w ≡ follow_of r m w
   unfolding follow_of
@@ -90,14 +87,8 @@ module _ (r : Rule) (m : ℕ) (w : List ℕ) where
       ap (λ (x : ℕ). lent_of r.targets r.finals x r.k m w) is ∙ sym (ap (λ (n : Option ℕ). taken_by n (walk_of r m w)) (then_is r w e))
 
 -- ---- a rule that is checked once
-pub told : (r : Rule) (p : Prepared) (n : Option ℕ) → rule_number r ≡ n → p ≡ prepare_by n r → p ≡ prepare_of r
-told r p n e is = is ∙ sym (ap (λ (x : Option ℕ). prepare_by x r) e)
-
-pub told_refused : (r : Rule) (x : ℕ) (z : Rule) → rule_number r ≡ some x → z ≡ no_rule
-    → record { refusal = some x; follower = record { rule = z; live = 0 } } ≡ prepare_of r
-told_refused r x z e is =
-    told r (record { refusal = some x; follower = record { rule = z; live = 0 } }) (some x) e
-    (ap (λ (y : Rule). record { refusal = some x; follower = record { rule = y; live = 0 } }) is)
+pub told : (r : Rule) (n : Option ℕ) → rule_number r ≡ n → prepare_by n r ≡ prepare_of r
+told r n e = sym (ap (λ (x : Option ℕ). prepare_by x r) e)
 
 by_refusal : (n : Option ℕ) (r : Rule) → (prepare_by n r).refusal ≡ n
 by_refusal none r = refl

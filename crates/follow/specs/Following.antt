@@ -13,8 +13,9 @@
 --                          and what the code's value stands for
 --   follow_number r w      the number with which following is refused: those of a checked rule (3, 4,
 --                          6, 8), then those of a chunk (12, 13)
---   Outcome, follow_outcome  the answer, every field; and what the code's result stands for
+--   Outcome                the answer, every field
 --   refused_follow x       refused with the number x: zeros
+--   follow_outcome         what each case of the code's result stands for
 --   walk_by ts finals live k m w  accepted: the set after the chunk, whether a final state is in it,
 --                          where it is lost, the symbols expected there, or next, and whether the
 --                          trace could have ended there, or can here: the set before that byte has a
@@ -26,9 +27,11 @@
 --                          (no_follower); or its follower
 --   follow_by_of f m w     what following by the follower f answers, in which any numbers may stand:
 --                          refused with 12 or 13 by its k, or walk_by of its numbers
-use Rattle.std.specs.Prelude.{ℕ, zero, suc, ◌-◌, Bool, false, cond, not, List, ◌++◌, length, take}
+use Rattle.std.specs.Prelude.{Result, Ok, Err, ℕ, zero, suc, ◌-◌, Bool, false, cond, not, List, ◌++◌, length, take}
 use Rattle.std.proofs.Math.Option.{Option, none, some}
-use Rattle.base.specs.Answers.{answer_number}
+use Rattle.base.specs.declared.Refusal.{Refusal}
+use Rattle.base.specs.Answers.{refusal_number}
+use Rattle.base.specs.Options.{option_of}
 use Rattle.base.specs.Conditions.{first_of}
 use Rattle.masks.specs.Masks.{shares, mask_of}
 use Rattle.marks.specs.Marks.{text_of}
@@ -37,11 +40,8 @@ use Rattle.automaton.specs.Successor.{successor, after}
 use Rattle.rulecheck.specs.Checking.{rule_conditions, rule_number}
 use Rattle.ruleformat.specs.Reader.{no_rule}
 use Rattle.chunks.specs.Taking.{chunk_conditions, chunk_number}
-use Rattle.follow.specs.declared.Lost.{Lost}
-use Rattle.follow.specs.declared.Lost.TheVariants.{Never, At}
 use Rattle.follow.specs.declared.Followed.{Followed}
 use Rattle.follow.specs.declared.Follower.{Follower}
-use Rattle.follow.specs.declared.PrepareResult.{PrepareResult}
 use Rattle.follow.specs.declared.Way.{Way}
 use Rattle.live.specs.Live.{live_of}
 
@@ -68,10 +68,6 @@ abbrev pub next_by : List ℕ → ℕ → ℕ → ℕ → ℕ
 next_by ts live k m = mask_of (λ s. shares (successor ts m s) live) k
 
 -- ---- where it is lost, and the sets
-abbrev pub lost_means : Lost → Option ℕ
-lost_means Never = none
-lost_means (At b) = some b
-
 pub record Walk : Type 0 where
   pub lost : Option ℕ
   pub before : ℕ
@@ -83,7 +79,7 @@ way_of ts live m w =
     record { lost = o; before = set_after ts m (take (place_of o w) w); set = set_after ts m w }
 
 abbrev pub way_outcome : Way → Walk
-way_outcome y = record { lost = lost_means y.lost; before = y.before; set = y.set }
+way_outcome y = record { lost = option_of y.lost; before = y.before; set = y.set }
 
 -- ---- the answer
 unfoldable pub follow_number : Rule → List ℕ → Option ℕ
@@ -97,18 +93,19 @@ pub record Outcome : Type 0 where
   pub expected : ℕ
   pub complete : Bool
 
-abbrev pub follow_outcome : Followed → Outcome
-follow_outcome f = record {
-  refusal = answer_number f.answer;
+abbrev pub refused_follow : ℕ → Outcome
+refused_follow number = record { refusal = some number; set = 0; ends = false; lost = none; expected = 0; complete = false }
+
+abbrev pub follow_outcome : Result Followed Refusal → Outcome
+follow_outcome (Ok f) = record {
+  refusal = none;
   set = f.set;
   ends = f.ends;
-  lost = lost_means f.lost;
+  lost = option_of f.lost;
   expected = f.expected;
   complete = f.complete;
 }
-
-abbrev pub refused_follow : ℕ → Outcome
-refused_follow number = record { refusal = some number; set = 0; ends = false; lost = none; expected = 0; complete = false }
+follow_outcome (Err refusal) = refused_follow (refusal_number refusal)
 
 abbrev pub walk_by : List ℕ → ℕ → ℕ → ℕ → ℕ → List ℕ → Outcome
 walk_by ts finals live k m w =
@@ -143,8 +140,9 @@ pub record Prepared : Type 0 where
   pub refusal : Option ℕ
   pub follower : Follower
 
-abbrev pub prepare_outcome : PrepareResult → Prepared
-prepare_outcome p = record { refusal = answer_number p.answer; follower = p.follower }
+abbrev pub prepare_outcome : Result Follower Refusal → Prepared
+prepare_outcome (Ok follower) = record { refusal = none; follower = follower }
+prepare_outcome (Err refusal) = record { refusal = some (refusal_number refusal); follower = no_follower }
 
 abbrev pub prepare_by : Option ℕ → Rule → Prepared
 prepare_by none r = record { refusal = none; follower = follower_of r }

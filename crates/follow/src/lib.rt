@@ -8,29 +8,21 @@ ghost use Rattle.limits.specs.Limits.{longest_chunk};
 ghost use Rattle.marks.specs.Marks.{text_of};
 ghost use Rattle.chunks.specs.Chunks.{foreign};
 ghost use Rattle.follow.specs.mirror.Cache.{cache_rows, Cached, Stepped};
-ghost use Rattle.follow.specs.Following.{next_by, way_of, way_outcome, refused_follow, follow_outcome, follow_of, lent_of, follow_by_of, prepare_outcome, prepare_of};
+ghost use Rattle.follow.specs.Following.{next_by, way_of, way_outcome, follow_outcome, follow_of, lent_of, follow_by_of, prepare_outcome, prepare_of};
 
 use automaton::Rule;
-use base::Answer;
+use base::Refusal;
 
-// A final state can still be reached; or the least number of bytes of the chunk, idle marks counted,
-// after which none can.
-#[derive(Clone, Copy)]
-pub enum Lost {
-    Never,
-    At(u32),
-}
-
-// The set of states after the chunk, whether a final state is in it, where the trace is lost, and of
-// the set before the byte at which it is lost, or after the chunk where it is not: a mask of the
-// symbols after which a final state can still be reached, and whether one is in it, so that the trace
-// could have ended there. Zeros beside a refusal.
+// The set of states after the chunk, and whether a final state is in it. The trace is lost after the
+// least number of bytes of the chunk, idle marks counted, after which no final state can be reached,
+// and not at all where one can. Of the set before the byte at which it is lost, or after the chunk
+// where it is not: a mask of the symbols after which a final state can still be reached, and whether
+// one is in it, so that the trace could have ended there.
 #[derive(Clone, Copy)]
 pub struct Followed {
-    pub answer: Answer,
     pub set: u32,
     pub ends: bool,
-    pub lost: Lost,
+    pub lost: Option<u32>,
     pub expected: u16,
     pub complete: bool,
 }
@@ -43,18 +35,11 @@ pub struct Follower {
     pub live: u32,
 }
 
-// The answer, with the follower beside it: zeros where the rule is refused.
-#[derive(Clone, Copy)]
-pub struct PrepareResult {
-    pub answer: Answer,
-    pub follower: Follower,
-}
-
 // Where a chunk is lost, the set before that byte, or after the chunk where it is not, and the set
 // after the chunk.
 #[derive(Clone, Copy)]
 struct Way {
-    lost: Lost,
+    lost: Option<u32>,
     before: u32,
     set: u32,
 }
@@ -77,15 +62,13 @@ struct Here {
 fn next_symbols(targets: &[u32; limits::TARGETS], live: u32, k: u8, set: u32) -> u16
     ensures { result ≡ next_by targets.now live k set }
 {
-    let most = base::at_most_u8(k, limits::MOST_SYMBOLS);
+    let most = k.min(limits::MOST_SYMBOLS);
     let mut mask: u16 = 0;
-    let mut s: u8 = 0;
-    while s < most {
+    for s in 0..most {
         let reached = automaton::successor(targets, set, s);
         if masks::meets(reached, live) {
             mask = mask | masks::only_symbol(s as usize);
         }
-        s += 1;
     }
     mask
 }
@@ -103,12 +86,10 @@ fn has_stray(chunk: &[u8], k: u8) -> bool
     ensures { result ≡ foreign (text_of chunk.now) k }
 {
     let mut found = false;
-    let mut i: usize = 0;
-    while i < chunk.len() {
-        if is_stray(chunk[i], k) {
+    for byte in chunk {
+        if is_stray(*byte, k) {
             found = true;
         }
-        i += 1;
     }
     found
 }
@@ -173,7 +154,7 @@ fn walk(targets: &[u32; limits::TARGETS], live: u32, set: u32, chunk: &[u8]) -> 
     while masks::meets(here.set, live) {
         if chunk.len() <= i {
             return Way {
-                lost: Lost::Never,
+                lost: None,
                 before: here.set,
                 set: here.set,
             };
@@ -183,40 +164,25 @@ fn walk(targets: &[u32; limits::TARGETS], live: u32, set: u32, chunk: &[u8]) -> 
         i += 1;
     }
     let at = i as u32;
-    while i < chunk.len() {
+    for j in i..chunk.len() {
         if here.set == 0 {
             return Way {
-                lost: Lost::At(at),
+                lost: Some(at),
                 before,
                 set: 0,
             };
         }
-        here = step(targets, &mut from, &mut to, &mut rows, here, chunk[i]);
-        i += 1;
+        here = step(targets, &mut from, &mut to, &mut rows, here, chunk[j]);
     }
     Way {
-        lost: Lost::At(at),
+        lost: Some(at),
         before,
         set: here.set,
     }
 }
 
-// Refused with that number.
-fn refuse(number: u8) -> Followed
-    ensures { follow_outcome result ≡ refused_follow number }
-{
-    Followed {
-        answer: Answer::Refused(number),
-        set: 0,
-        ends: false,
-        lost: Lost::Never,
-        expected: 0,
-        complete: false,
-    }
-}
-
 // Follows a chunk by a rule's targets, final states, live states and number of symbols, whatever
-// these are: 12, 13, or the answer.
+// these are: refused with 12 or 13, or the answer.
 fn follow_lent(
     targets: &[u32; limits::TARGETS],
     finals: u32,
@@ -224,70 +190,45 @@ fn follow_lent(
     k: u8,
     set: u32,
     chunk: &[u8],
-) -> Followed
+) -> Result<Followed, Refusal>
     ensures { follow_outcome result ≡ lent_of targets.now finals live k set chunk.now }
 {
     if limits::CHUNK < chunk.len() {
-        return refuse(12);
+        return Err(Refusal::LongChunk);
     }
     if has_stray(chunk, k) {
-        return refuse(13);
+        return Err(Refusal::ForeignByte);
     }
     let way = walk(targets, live, set, chunk);
-    let expected = next_symbols(targets, live, k, way.before);
-    let ends = masks::meets(way.set, finals);
-    let complete = masks::meets(way.before, finals);
-    let lost = way.lost;
-    Followed {
-        answer: Answer::Accepted,
+    Ok(Followed {
         set: way.set,
-        ends,
-        lost,
-        expected,
-        complete,
-    }
+        ends: masks::meets(way.set, finals),
+        lost: way.lost,
+        expected: next_symbols(targets, live, k, way.before),
+        complete: masks::meets(way.before, finals),
+    })
 }
 
 // Follows a chunk, which may be any bytes, from a set of states of a rule, which may be any value.
-pub fn follow(rule: Rule, set: u32, chunk: &[u8]) -> Followed
+pub fn follow(rule: Rule, set: u32, chunk: &[u8]) -> Result<Followed, Refusal>
     ensures { follow_outcome result ≡ follow_of rule set chunk.now }
 {
-    let checked = rulecheck::check_rule(rule);
-    match checked {
-        Answer::Refused(number) => refuse(number),
-        Answer::Accepted => {
-            let live = live::live_states(&rule.targets, rule.finals);
-            follow_lent(&rule.targets, rule.finals, live, rule.k, set, chunk)
-        }
-    }
+    rulecheck::check_rule(rule)?;
+    let live = live::live_states(&rule.targets, rule.finals);
+    follow_lent(&rule.targets, rule.finals, live, rule.k, set, chunk)
 }
 
 // Checks a rule, which may be any value, to follow many chunks by it.
-pub fn prepare(rule: Rule) -> PrepareResult
+pub fn prepare(rule: Rule) -> Result<Follower, Refusal>
     ensures { prepare_outcome result ≡ prepare_of rule }
 {
-    let checked = rulecheck::check_rule(rule);
-    match checked {
-        Answer::Refused(number) => {
-            let answer = Answer::Refused(number);
-            let nothing = rulefile::no_rule();
-            let follower = Follower {
-                rule: nothing,
-                live: 0,
-            };
-            PrepareResult { answer, follower }
-        }
-        Answer::Accepted => {
-            let answer = Answer::Accepted;
-            let live = live::live_states(&rule.targets, rule.finals);
-            let follower = Follower { rule, live };
-            PrepareResult { answer, follower }
-        }
-    }
+    rulecheck::check_rule(rule)?;
+    let live = live::live_states(&rule.targets, rule.finals);
+    Ok(Follower { rule, live })
 }
 
 // Follows a chunk by what `prepare` answered, or by any other numbers.
-pub fn follow_by(follower: Follower, set: u32, chunk: &[u8]) -> Followed
+pub fn follow_by(follower: Follower, set: u32, chunk: &[u8]) -> Result<Followed, Refusal>
     ensures { follow_outcome result ≡ follow_by_of follower set chunk.now }
 {
     let rule = follower.rule;

@@ -23,6 +23,7 @@
 --   answer_means, traced_means  what each case of the code's answer says, and the code's result
 use Rattle.std.specs.Prelude.{Bool, true, false, cond, List, ℕ, eqb}
 use Rattle.std.proofs.Math.Option.{Option, none, some}
+use Rattle.base.specs.Answers.{refusal_number}
 use Rattle.executions.specs.Executions.{Machine}
 use Rattle.ruleformat.specs.Refusals.{refusal}
 use Rattle.ruleformat.specs.Reader.{rule_of}
@@ -110,7 +111,7 @@ answer_means Begun = some begun
 answer_means (Yes m) = some (going true m)
 answer_means (No m) = some (going false m)
 answer_means (Lost b m) = some (lost_at b m)
-answer_means (Refused x) = some (refused x)
+answer_means (Refused x) = some (refused (refusal_number x))
 answer_means Malformed = none
 
 abbrev pub traced_means : Traced → Outcome

@@ -4,11 +4,12 @@
 
 ghost use Rattle.std.specs.Prelude.{◌≡◌};
 ghost use Rattle.std.proofs.Math.Option.{none, some};
-ghost use Rattle.follow.specs.Following.{lost_means, prepare_outcome};
+ghost use Rattle.base.specs.Options.{option_of};
+ghost use Rattle.follow.specs.Following.{prepare_outcome};
 ghost use Rattle.followcalls.specs.Calls.{begins, follows, none_yet, follower_in, followed_by, call_step, answer_means, traced_means};
 
-use base::Answer;
-use follow::{Follower, Lost, PrepareResult};
+use base::Refusal;
+use follow::Follower;
 
 // The rule that the trace is followed by, and the set of states that it has reached. No rule has no
 // states, so a follower whose rule has none is none.
@@ -26,7 +27,7 @@ pub enum TraceAnswer {
     Yes(u16),
     No(u16),
     Lost(u32, u16),
-    Refused(u8),
+    Refused(Refusal),
     Malformed,
 }
 
@@ -47,36 +48,24 @@ pub fn fresh() -> FollowState
 }
 
 // Reads a rule file and prepares its rule.
-fn prepare_file(file: &[u8]) -> PrepareResult
+fn prepare_file(file: &[u8]) -> Result<Follower, Refusal>
     ensures { prepare_outcome result ≡ follower_in file.now }
 {
-    let reading = rulefile::read(file);
-    let read = reading.answer;
-    match read {
-        Answer::Refused(number) => {
-            let answer = Answer::Refused(number);
-            let rule = rulefile::no_rule();
-            let follower = Follower { rule, live: 0 };
-            PrepareResult { answer, follower }
-        }
-        Answer::Accepted => follow::prepare(reading.rule),
-    }
+    let rule = rulefile::read(file)?;
+    follow::prepare(rule)
 }
 
 // Begins a trace by the rule in a file; a refused file changes nothing.
 pub fn begin(state: FollowState, file: &[u8]) -> Traced
     ensures { traced_means result ≡ call_step state (begins file.now) }
 {
-    let prepared = prepare_file(file);
-    let answer = prepared.answer;
-    match answer {
-        Answer::Refused(number) => {
-            let answer = TraceAnswer::Refused(number);
+    match prepare_file(file) {
+        Err(refusal) => {
+            let answer = TraceAnswer::Refused(refusal);
             Traced { answer, state }
         }
-        Answer::Accepted => {
+        Ok(follower) => {
             let answer = TraceAnswer::Begun;
-            let follower = prepared.follower;
             let set = follower.rule.initials;
             let state = FollowState { follower, set };
             Traced { answer, state }
@@ -85,12 +74,12 @@ pub fn begin(state: FollowState, file: &[u8]) -> Traced
 }
 
 // What a chunk that was followed is answered.
-fn said(lost: Lost, ends: bool, expected: u16) -> TraceAnswer
-    ensures { answer_means result ≡ some (followed_by none (lost_means lost) ends expected) }
+fn said(lost: Option<u32>, ends: bool, expected: u16) -> TraceAnswer
+    ensures { answer_means result ≡ some (followed_by none (option_of lost) ends expected) }
 {
     match lost {
-        Lost::At(bytes) => TraceAnswer::Lost(bytes, expected),
-        Lost::Never => {
+        Some(bytes) => TraceAnswer::Lost(bytes, expected),
+        None => {
             if ends {
                 TraceAnswer::Yes(expected)
             } else {
@@ -106,19 +95,16 @@ pub fn next(state: FollowState, chunk: &[u8]) -> Traced
 {
     let follower = state.follower;
     if follower.rule.n == 0 {
-        let answer = TraceAnswer::Refused(20);
+        let answer = TraceAnswer::Refused(Refusal::NoRule);
         return Traced { answer, state };
     }
-    let followed = follow::follow_by(follower, state.set, chunk);
-    let came = followed.answer;
-    match came {
-        Answer::Refused(number) => {
-            let answer = TraceAnswer::Refused(number);
+    match follow::follow_by(follower, state.set, chunk) {
+        Err(refusal) => {
+            let answer = TraceAnswer::Refused(refusal);
             Traced { answer, state }
         }
-        Answer::Accepted => {
-            let lost = followed.lost;
-            let answer = said(lost, followed.ends, followed.expected);
+        Ok(followed) => {
+            let answer = said(followed.lost, followed.ends, followed.expected);
             let set = followed.set;
             let state = FollowState { follower, set };
             Traced { answer, state }

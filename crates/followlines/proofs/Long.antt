@@ -28,7 +28,7 @@ long_refused f h = from_1 f ∙ rw (not_short f (omega arith), file_long f (omeg
 
 chunk_refused : (p : Follower) (m : ℕ) (w : List ℕ) → 65536 < length w → follow_by_of p m w ≡ refused_follow 12
 unfolding follow_by_of
-chunk_refused p m w h = sym (long p.rule.targets p.rule.finals p.live p.rule.k m w (refused_follow 12) h refl)
+chunk_refused p m w h = sym (long p.rule.targets p.rule.finals p.live p.rule.k m w h)
 
 module _ (s : FollowState) where
   abbrev too_long : Bool → Outcome

@@ -6,7 +6,7 @@
 --   told                    what a test found
 --   inside                  a line that begins with a word has it whole
 --   rule_line, next_line, other_line   a line by the word with which it begins
-use mathlib.Core.Path.{◌≡◌, sym, ap, ◌∙◌}
+use mathlib.Core.Path.{◌≡◌, refl, sym, ap, ◌∙◌}
 use mathlib.Core.Bool.{Bool, true, false, true≢false}
 use mathlib.Core.List.{List}
 use mathlib.Core.Option.{Option, none, some}
@@ -19,8 +19,6 @@ use lib.Seq.{take_all}
 use Rattle.base.proofs.Tests.{by_test}
 use Rattle.lines.specs.Splitting.{begins as begins_with}
 use Rattle.lines.proofs.Splits.{begins_short}
-use Rattle.fields.specs.declared.Bytes.{Bytes}
-use Rattle.fields.specs.declared.Bytes.TheVariants.{Put, Malformed}
 use Rattle.fields.specs.Bytes.{parse_bytes, Took}
 use Rattle.fields.proofs.Taking.{carries, not_bytes}
 use Rattle.followcalls.specs.declared.FollowState.{FollowState}
@@ -39,14 +37,14 @@ pub made : (s : FollowState) (rule b : Bool) (w : List ℕ) (o : Outcome) → ru
 made s rule b w o e is = is ∙ ap (λ (x : Bool). call_step s (call_of x w)) (sym e)
 
 -- ---- a field
-module _ (field before after : List ℕ) (x : Bytes) (took : Took field before x after) (s : FollowState) (rule : Bool) (o : Outcome) where
-  pub not_field : x ≡ Malformed → o ≡ line_step s none → o ≡ line_step s (call_by rule (parse_bytes field))
-  not_field e is = rw (not_bytes field before after x took e) is
+module _ (field before after : List ℕ) (s : FollowState) (rule : Bool) (o : Outcome) where
+  pub not_field : Took field before none after → o ≡ line_step s none → o ≡ line_step s (call_by rule (parse_bytes field))
+  not_field took is = rw (not_bytes field before after none took refl) is
 
-  pub field_put : 65537 ≤ length before → (n : ℕ) → x ≡ Put n → o ≡ call_step s (call_of rule (take n after))
+  pub field_put : 65537 ≤ length before → (n : ℕ) → Took field before (some n) after → o ≡ call_step s (call_of rule (take n after))
       → o ≡ line_step s (call_by rule (parse_bytes field))
-  field_put room n put is =
-      let k = carries field before after x took n put in
+  field_put room n took is =
+      let k = carries field before after (some n) took n refl in
       rw k.said (is ∙ ap (λ (b : List ℕ). call_step s (call_of rule b)) k.is ∙ clip s rule k.bytes (length before) room)
 
 -- ---- a line

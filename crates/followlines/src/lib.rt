@@ -11,7 +11,6 @@ ghost use Rattle.followcalls.specs.Calls.{forgets, lost_at, call_step, answer_me
 ghost use Rattle.followlines.specs.Lines.{call_of, call_by, line_in};
 ghost use Rattle.followlines.specs.Answers.{most_answer, mask_text, reply_text, response_text, line_step};
 
-use fields::Bytes;
 use followcalls::{FollowState, TraceAnswer, Traced};
 
 // Room for any answer: `lost `, ten digits, a space, four digits and a line feed.
@@ -52,10 +51,9 @@ fn run_field(state: FollowState, rule: bool, field: &[u8], buffer: &mut [u8]) ->
     ensures result_value { traced_means result ≡ line_step state (call_by rule (parse_bytes field.now)) }
     ensures scratch { length buffer.new ≡ length buffer.old }
 {
-    let read = fields::read_bytes(field, buffer);
-    match read {
-        Bytes::Malformed => run_malformed(state),
-        Bytes::Put(n) => make(state, rule, &buffer[..n]),
+    match fields::read_bytes(field, buffer) {
+        None => run_malformed(state),
+        Some(n) => make(state, rule, &buffer[..n]),
     }
 }
 
@@ -117,7 +115,7 @@ pub fn put_answer(out: &mut [u8], answer: TraceAnswer) -> usize
         TraceAnswer::Yes(mask) => put_going(out, b"yes", mask),
         TraceAnswer::No(mask) => put_going(out, b"no", mask),
         TraceAnswer::Lost(bytes, mask) => put_lost(out, bytes, mask),
-        TraceAnswer::Refused(number) => answers::put_refused(out, 0, number),
+        TraceAnswer::Refused(refusal) => answers::put_refused(out, 0, refusal.number()),
         TraceAnswer::Malformed => answers::put_malformed(out, 0),
     }
 }
@@ -126,13 +124,5 @@ pub fn put_answer(out: &mut [u8], answer: TraceAnswer) -> usize
 pub fn is_malformed(answer: TraceAnswer) -> bool
     ensures { result ≡ is_none (answer_means answer) }
 {
-    match answer {
-        TraceAnswer::Forgotten => false,
-        TraceAnswer::Begun => false,
-        TraceAnswer::Yes(_) => false,
-        TraceAnswer::No(_) => false,
-        TraceAnswer::Lost(_, _) => false,
-        TraceAnswer::Refused(_) => false,
-        TraceAnswer::Malformed => true,
-    }
+    matches!(answer, TraceAnswer::Malformed)
 }

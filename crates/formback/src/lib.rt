@@ -3,15 +3,15 @@
 
 ghost use Rattle.std.specs.Prelude.{◌≡◌, cond, ◌+◌, ◌*◌, ◌^◌, ◌≤◌, ◌<◌, leb, ltb, get_or, replicate};
 ghost use Rattle.std.proofs.Math.Option.{none};
-ghost use Rattle.base.specs.Answers.{answer_number};
+ghost use Rattle.base.specs.Answers.{result_number};
 ghost use Rattle.base.specs.Lists.{list_from};
 ghost use Rattle.limits.specs.Limits.{most_symbols, most_sets, empty_set, table_cells};
 ghost use Rattle.forms.specs.Form.{how_many, kept_at};
 ghost use Rattle.forms.specs.Back.{not_below, some_not_below, first_lacks, stray_bits, lacking, some_lacking, bad_numbers, back_number, back_cell, no_table, back_outcome, back_of};
 ghost use Rattle.formback.specs.mirror.Parts.{form_by};
 
-use base::Answer;
-use forms::{BackResult, Form, Table};
+use base::Refusal;
+use forms::{Form, Table};
 
 // Not 1 to 512 sets and 1 to 16 symbols.
 fn bad_numbers(sets: usize, k: usize) -> bool
@@ -45,12 +45,10 @@ fn some_not_below(failure: &[u16; limits::SETS], sets: usize) -> bool
     requires { sets ≤ most_sets }
     ensures { result ≡ some_not_below sets failure.now }
 {
-    let mut t: usize = 0;
-    while t < sets {
+    for t in 0..sets {
         if not_below(failure, t) {
             return true;
         }
-        t += 1;
     }
     false
 }
@@ -60,12 +58,10 @@ fn first_lacks(kept: &[u16; limits::SETS], k: usize) -> bool
     requires { k ≤ most_symbols }
     ensures { result ≡ first_lacks k kept.now }
 {
-    let mut s: usize = 0;
-    while s < k {
+    for s in 0..k {
         if !forms::has_symbol(kept[0], s) {
             return true;
         }
-        s += 1;
     }
     false
 }
@@ -83,12 +79,10 @@ fn stray_bits(kept: &[u16; limits::SETS], sets: usize, k: usize) -> bool
     requires { (sets ≤ most_sets) × (k ≤ most_symbols) }
     ensures { result ≡ stray_bits sets k kept.now }
 {
-    let mut t: usize = 0;
-    while t < sets {
+    for t in 0..sets {
         if beyond(kept[t], k) {
             return true;
         }
-        t += 1;
     }
     false
 }
@@ -99,12 +93,10 @@ fn count_kept(kept: &[u16; limits::SETS], sets: usize) -> usize
     ensures { (result ≤ table_cells) × (result ≡ how_many (kept_at kept.now) (sets * most_symbols)) }
 {
     let mut n: usize = 0;
-    let mut c: usize = 0;
-    while c < sets * limits::SYMBOLS {
+    for c in 0..sets * limits::SYMBOLS {
         if forms::has_symbol(kept[c / limits::SYMBOLS], c % limits::SYMBOLS) {
             n += 1;
         }
-        c += 1;
     }
     n
 }
@@ -124,12 +116,10 @@ fn some_lacking(cells: &[u16; limits::CELLS], sets: usize, count: usize) -> bool
     requires { count ≤ table_cells }
     ensures { result ≡ some_lacking sets count cells.now }
 {
-    let mut i: usize = 0;
-    while i < count {
+    for i in 0..count {
         if is_lacking(sets, cells[i]) {
             return true;
         }
-        i += 1;
     }
     false
 }
@@ -141,25 +131,25 @@ fn check(
     failure: &[u16; limits::SETS],
     kept: &[u16; limits::SETS],
     cells: &[u16; limits::CELLS],
-) -> Answer
-    ensures { answer_number result ≡ back_number (form_by sets k failure.now kept.now cells.now) }
+) -> Result<(), Refusal>
+    ensures { result_number result ≡ back_number (form_by sets k failure.now kept.now cells.now) }
 {
     if bad_numbers(sets, k) {
-        return Answer::Refused(40);
+        return Err(Refusal::NoForm);
     }
     if some_not_below(failure, sets) {
-        return Answer::Refused(40);
+        return Err(Refusal::NoForm);
     }
     if first_lacks(kept, k) {
-        return Answer::Refused(40);
+        return Err(Refusal::NoForm);
     }
     if stray_bits(kept, sets, k) {
-        return Answer::Refused(40);
+        return Err(Refusal::NoForm);
     }
     if some_lacking(cells, sets, count_kept(kept, sets)) {
-        return Answer::Refused(40);
+        return Err(Refusal::NoForm);
     }
-    Answer::Accepted
+    Ok(())
 }
 
 // A cell that set t does not keep: its failure set's, or 512 for no symbol.
@@ -193,8 +183,7 @@ fn fill(
     ensures { next.new ≡ list_from 0 table_cells (back_cell (form_by sets k failure.now kept.now cells.now)) }
 {
     let mut at: usize = 0;
-    let mut c: usize = 0;
-    while c < sets * limits::SYMBOLS {
+    for c in 0..sets * limits::SYMBOLS {
         let t = c / limits::SYMBOLS;
         let s = c % limits::SYMBOLS;
         if forms::has_symbol(kept[t], s) {
@@ -203,12 +192,11 @@ fn fill(
         } else {
             next[c] = inherited(k, failure, next, t, s);
         }
-        c += 1;
     }
 }
 
 // Zeros in every field.
-fn no_table() -> Table
+pub fn no_table() -> Table
     ensures { result ≡ no_table }
 {
     let next = [0u16; limits::CELLS];
@@ -219,8 +207,8 @@ fn no_table() -> Table
     }
 }
 
-// The table of a form, or a refusal with 40. Any value is taken.
-pub fn table_of(form: Form) -> BackResult
+// The table of a form, or refused where it is none (40). Any value is taken.
+pub fn table_of(form: Form) -> Result<Table, Refusal>
     ensures { back_outcome result ≡ back_of form }
 {
     let sets = form.sets;
@@ -228,30 +216,19 @@ pub fn table_of(form: Form) -> BackResult
     let failure = form.failure;
     let kept = form.kept;
     let cells = form.cells;
-    let checked = check(sets as usize, symbols as usize, &failure, &kept, &cells);
-    match checked {
-        Answer::Accepted => {
-            let mut next = [limits::EMPTY; limits::CELLS];
-            fill(
-                sets as usize,
-                symbols as usize,
-                &failure,
-                &kept,
-                &cells,
-                &mut next,
-            );
-            let table = Table {
-                sets,
-                symbols,
-                next,
-            };
-            let answer = Answer::Accepted;
-            BackResult { answer, table }
-        }
-        Answer::Refused(number) => {
-            let table = no_table();
-            let answer = Answer::Refused(number);
-            BackResult { answer, table }
-        }
-    }
+    check(sets as usize, symbols as usize, &failure, &kept, &cells)?;
+    let mut next = [limits::EMPTY; limits::CELLS];
+    fill(
+        sets as usize,
+        symbols as usize,
+        &failure,
+        &kept,
+        &cells,
+        &mut next,
+    );
+    Ok(Table {
+        sets,
+        symbols,
+        next,
+    })
 }

@@ -1,19 +1,20 @@
 -- One lemma for each way out of `form_in`. Assumes nothing.
+use Rattle.std.proofs.Common.{Ok, Err}
 use mathlib.Core.Path.{◌≡◌, refl, sym, ap, ◌∙◌}
 use mathlib.Core.List.{List}
 use mathlib.Core.Option.{Option, none, some}
 use Prim.Native.Nat.{ℕ}
 use Rattle.base.proofs.Tests.{zero_one}
 use Rattle.ruleformat.specs.Reader.{rule_of}
+use Rattle.base.specs.declared.Refusal.{Refusal}
+use Rattle.base.specs.Answers.{refusal_number}
 use Rattle.calls.specs.declared.Judge.{Judge}
+use Rattle.calls.specs.declared.Sizes.{Sizes}
 use Rattle.calls.specs.declared.InstallResult.{InstallResult}
-use Rattle.build.specs.declared.BuildAnswer.TheVariants.{Accepted, Refused}
 use Rattle.calls.specs.Replies.{Reply, refused, install_means, Outcome, install_outcome}
 use Rattle.calls.specs.Calls.{load_number, with_sets}
 use Rattle.calls.specs.mirror.Steps.{outcome_by, with_rule, load_of}
-use Rattle.forms.specs.declared.Form.{Form}
-use Rattle.base.specs.declared.Answer.TheVariants as form
-use Rattle.formmaker.specs.Making.{Made, no_form, made_of, made_outcome}
+use Rattle.formmaker.specs.Making.{made_of, made_outcome}
 use Rattle.formfile.specs.Files.{form_by, form_for}
 
 -- a reply by the number of the conditions
@@ -29,19 +30,18 @@ module _ (j : Judge) (f : List ℕ) (r : InstallResult) (is : install_outcome r 
   replies : install_means r.answer ≡ (load_of j f).reply
   replies = ap (λ (o : Outcome). o.reply) is
 
-  pub unread : (x : ℕ) → r.answer ≡ Refused x → (g : Form) → g ≡ no_form
-      → made_outcome (record { answer = form.Refused x; form = g }) ≡ form_for f
+  pub unread : (e : Refusal) → r.answer ≡ Err e → made_outcome (Err e) ≡ form_for f
   unfolding load_of
-  unread x e g z =
-      let n : load_number f ≡ some x
-      = number_of (load_number f) _ _ j (with_rule (rule_of f)) x (sym replies ∙ ap install_means e) in
-      ap (λ (y : Form). record { number = some x; form = y }) z ∙ sym (ap (λ (o : Option ℕ). form_by o f) n)
+  unread e is-err =
+      let n : load_number f ≡ some (refusal_number e)
+      = number_of (load_number f) _ _ j (with_rule (rule_of f)) (refusal_number e) (sym replies ∙ ap install_means is-err) in
+      sym (ap (λ (o : Option ℕ). form_by o f) n)
 
-  pub made : (a b : ℕ) → r.answer ≡ Accepted a b → (m : Made) → m ≡ made_of r.judge → m ≡ form_for f
+  pub made : (s : Sizes) → r.answer ≡ Ok s → made_of r.judge ≡ form_for f
   unfolding load_of
-  made a b e m q =
+  made s is-ok =
       let n : load_number f ≡ none
-      = none_of (load_number f) _ _ a b j (with_rule (rule_of f)) (sym replies ∙ ap install_means e) in
+      = none_of (load_number f) _ _ s.sets s.starts j (with_rule (rule_of f)) (sym replies ∙ ap install_means is-ok) in
       let state : r.judge ≡ with_rule (rule_of f)
       = ap (λ (o : Outcome). o.state) is ∙ ap (λ (o : Option ℕ). (outcome_by o (with_sets (rule_of f)) j (with_rule (rule_of f))).state) n in
-      q ∙ ap made_of state ∙ sym (ap (λ (o : Option ℕ). form_by o f) n)
+      ap made_of state ∙ sym (ap (λ (o : Option ℕ). form_by o f) n)

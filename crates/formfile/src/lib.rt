@@ -5,22 +5,14 @@ ghost use Rattle.std.specs.Prelude.{◌≡◌};
 ghost use Rattle.formmaker.specs.Making.{made_outcome};
 ghost use Rattle.formfile.specs.Files.{form_for};
 
-use base::Answer;
-use build::BuildAnswer;
-use forms::FormResult;
+use base::Refusal;
+use forms::Form;
 
 // Loads a rule file into a fresh judge and makes the form of its table.
-pub fn form_in(file: &[u8]) -> FormResult
+pub fn form_in(file: &[u8]) -> Result<Form, Refusal>
     ensures { made_outcome result ≡ form_for file.now }
 {
     let loaded = judge::load(judge::new_judge(), file);
-    let load = loaded.answer;
-    match load {
-        BuildAnswer::Refused(number) => {
-            let form = formmaker::no_form();
-            let answer = Answer::Refused(number);
-            FormResult { answer, form }
-        }
-        BuildAnswer::Accepted(_, _) => formmaker::make_form(loaded.judge),
-    }
+    loaded.answer?;
+    formmaker::make_form(loaded.judge)
 }

@@ -4,9 +4,9 @@
 --   unsaid     the field says nothing
 --   goes_on    it says something: what is made of the rest
 --   no_cells, many_sets_lem, many_symbols, all_held  the ways out of `with_masks`
-use mathlib.Core.Path.{◌≡◌, refl, sym, ap, ap₂, ◌∙◌}
+use mathlib.Core.Path.{◌≡◌, refl, sym, ap, ◌∙◌}
 use mathlib.Core.Logic.{◌⊎◌, inl, inr}
-use mathlib.Core.Bool.{Bool, true, false, cond, ◌&&◌}
+use mathlib.Core.Bool.{cond, ◌&&◌}
 use mathlib.Core.List.{List}
 use mathlib.Core.Option.{Option, none, some}
 use Prim.Native.Nat.{ℕ, suc, ◌+◌, ◌-◌, ◌≤◌, ◌<◌}
@@ -18,35 +18,23 @@ use borrow.Author.Tests.{lt-ltb, le-ltb}
 use Rattle.base.proofs.Tests.{by_test}
 use Rattle.lines.specs.Splitting.{up_to, past}
 use Rattle.lines.proofs.Splits.{up_take, past_there, past_none}
-use Rattle.wordfields.specs.Words.{words_mean}
 use Rattle.forms.specs.declared.Form.{Form}
 use Rattle.formmaker.specs.Making.{no_form}
-use Rattle.formline.specs.declared.LineKind.{LineKind}
-use Rattle.formline.specs.declared.LineKind.TheVariants.{TooGreat, Malformed}
-use Rattle.formline.specs.declared.FormLine.{FormLine}
-use Rattle.formline.specs.Lines.{field_then, cells_by, Held, says, too_great, held_of, held_by, line_means}
+use Rattle.formline.specs.Lines.{field_then, cells_by, Held, says, too_great, malformed, held_of}
 
 nothing_behind : {A : Type 0} (o : Option A) (next : A → List ℕ → Option Form) → field_then o none next ≡ none
 nothing_behind none next = refl
 nothing_behind (some a) next = refl
-
--- a result without a form: its kind, and zeros
-abbrev Blank : FormLine → LineKind → Type 0
-Blank r kind = (r.kind ≡ kind) × (r.form ≡ no_form)
-
-of_kind : (r : FormLine) (kind : LineKind) → Blank r kind → line_means r ≡ held_by kind no_form
-of_kind r kind e = ap₂ held_by e.0 e.1
 
 module _ {A : Type 0} (parse : List ℕ → Option A) (next : A → List ℕ → Option Form) (w : List ℕ) (space : ℕ)
     (found : space ≡ 0 + length (up_to 32 (drop 0 w))) where
   abbrev all : Held
   all = held_of (field_then (parse (up_to 32 w)) (past 32 w) next)
 
-  pub alone : length w ≤ space → (r : FormLine) → Blank r Malformed → line_means r ≡ all
-  alone l r e =
+  pub alone : length w ≤ space → malformed no_form ≡ all
+  alone l =
       let z : past 32 w ≡ none = past_none 32 w (omega arith) in
-      of_kind r Malformed e
-      ∙ sym (ap held_of (ap (λ (o : Option (List ℕ)). field_then (parse (up_to 32 w)) o next) z ∙ nothing_behind (parse (up_to 32 w)) next))
+      sym (ap held_of (ap (λ (o : Option (List ℕ)). field_then (parse (up_to 32 w)) o next) z ∙ nothing_behind (parse (up_to 32 w)) next))
 
   module _ (here : space < length w) where
     part : take space w ≡ up_to 32 w
@@ -57,36 +45,33 @@ module _ {A : Type 0} (parse : List ℕ → Option A) (next : A → List ℕ →
         let e : suc (length (up_to 32 w)) ≡ space + 1 = omega arith in
         past_there 32 w (omega arith) ∙ ap (λ (x : ℕ). some (drop x w)) e
 
-    pub unsaid : (o : Option A) → o ≡ parse (take space w) → o ≡ none → (r : FormLine) → Blank r Malformed → line_means r ≡ all
-    unsaid o is e r k =
-        let z : parse (up_to 32 w) ≡ none = ap parse (sym part) ∙ sym is ∙ e in
-        of_kind r Malformed k ∙ sym (ap (λ (o : Option A). held_of (field_then o (past 32 w) next)) z)
+    pub unsaid : none ≡ parse (take space w) → malformed no_form ≡ all
+    unsaid is = ap (λ (o : Option A). held_of (field_then o (past 32 w) next)) (is ∙ ap parse part)
 
-    pub goes_on : (o : Option A) (a : A) → o ≡ parse (take space w) → o ≡ some a → (m : Held) → m ≡ held_of (next a (drop (space + 1) w)) → m ≡ all
-    goes_on o a is e m is-next =
-        let z : parse (up_to 32 w) ≡ some a = ap parse (sym part) ∙ sym is ∙ e in
-        is-next ∙ sym (ap (λ (o : Option A). held_of (field_then o (past 32 w) next)) z
-        ∙ ap (λ (o : Option (List ℕ)). held_of (field_then (some a) o next)) rest)
+    pub goes_on : (a : A) → some a ≡ parse (take space w) → (m : Held) → m ≡ held_of (next a (drop (space + 1) w)) → m ≡ all
+    goes_on a is m is-next =
+        is-next ∙ sym (ap (λ (o : Option (List ℕ)). held_of (field_then (some a) o next)) rest)
+        ∙ ap (λ (o : Option A). held_of (field_then o (past 32 w) next)) (is ∙ ap parse part)
 
 -- ---- the last field, which says o, and then the two numbers
 module _ (n k : ℕ) (a b : List ℕ) (o : Option (List ℕ)) where
-  pub no_cells : o ≡ none → (r : FormLine) → Blank r Malformed → line_means r ≡ held_of (cells_by n k a b o)
-  no_cells e r q = of_kind r Malformed q ∙ sym (ap (λ (o : Option (List ℕ)). held_of (cells_by n k a b o)) e)
+  pub no_cells : none ≡ o → malformed no_form ≡ held_of (cells_by n k a b o)
+  no_cells e = ap (λ (o : Option (List ℕ)). held_of (cells_by n k a b o)) e
 
-  module _ (l : List ℕ) (e : o ≡ some l) where
+  module _ (l : List ℕ) (e : some l ≡ o) where
     abbrev both : Held
     both = cond (ltb n 65536 && ltb k 256) (says (record { sets = n; symbols = k; failure = a; kept = b; cells = l })) (too_great no_form)
 
     held : both ≡ held_of (cells_by n k a b o)
-    held = sym (ap (λ (o : Option (List ℕ)). held_of (cells_by n k a b o)) e)
+    held = ap (λ (o : Option (List ℕ)). held_of (cells_by n k a b o)) e
 
-    pub many_sets_lem : 65535 < n → (r : FormLine) → Blank r TooGreat → line_means r ≡ held_of (cells_by n k a b o)
-    many_sets_lem h r q = let z : both ≡ too_great no_form = rw (le-ltb n 65536 (omega arith)) in of_kind r TooGreat q ∙ sym z ∙ held
+    pub many_sets_lem : 65535 < n → too_great no_form ≡ held_of (cells_by n k a b o)
+    many_sets_lem h = let z : both ≡ too_great no_form = rw (le-ltb n 65536 (omega arith)) in sym z ∙ held
 
-    pub many_symbols : n ≤ 65535 → 255 < k → (r : FormLine) → Blank r TooGreat → line_means r ≡ held_of (cells_by n k a b o)
-    many_symbols h m r q =
+    pub many_symbols : n ≤ 65535 → 255 < k → too_great no_form ≡ held_of (cells_by n k a b o)
+    many_symbols h m =
         let z : both ≡ too_great no_form = rw (lt-ltb n 65536 (omega arith), le-ltb k 256 (omega arith)) in
-        of_kind r TooGreat q ∙ sym z ∙ held
+        sym z ∙ held
 
     pub all_held : n ≤ 65535 → k ≤ 255
         → says (record { sets = n; symbols = k; failure = a; kept = b; cells = l }) ≡ held_of (cells_by n k a b o)
@@ -99,13 +84,6 @@ pub too_great_lem : (f : Form) → (65535 < f.sets) ⊎ (255 < f.symbols) → he
 too_great_lem f (inl h) = rw (le-ltb f.sets 65536 (omega arith))
 too_great_lem f (inr h) =
     by_test (ltb f.sets 65536) (λ t. rw (t, le-ltb f.symbols 256 (omega arith))) (λ t. rw t)
-
--- numbers that were read, or not
-pub words_known : (known : Bool) (words : List ℕ) → known ≡ true → words_mean known words ≡ some words
-words_known known words e = rw e
-
-pub words_unknown : (known : Bool) (words : List ℕ) → known ≡ false → words_mean known words ≡ none
-words_unknown known words e = rw e
 
 -- a part of a line up to its end
 pub to_the_end : (w : List ℕ) (space : ℕ) → take (length w - (space + 1)) (drop (space + 1) w) ≡ drop (space + 1) w

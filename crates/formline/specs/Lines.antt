@@ -12,7 +12,8 @@
 --                        line is malformed; with the form beside it
 --   held_of o             that, where the line says the form o, if it says one; beside no form zeros
 --   line_means r         what the code's result says
-use Rattle.std.specs.Prelude.{cond, ◌&&◌, List, ℕ, ◌+◌, ◌*◌, ltb}
+use Rattle.std.specs.Prelude as code
+use Rattle.std.specs.Prelude.{Some, None, Result, Ok, Err, cond, ◌&&◌, List, ℕ, ◌+◌, ◌*◌, ltb}
 use Rattle.std.proofs.Math.Option.{Option, none, some}
 use Rattle.limits.specs.Limits.{most_sets, table_cells, most_digits}
 use Rattle.lines.specs.Splitting.{up_to, past}
@@ -20,9 +21,7 @@ use Rattle.fields.specs.Numbers.{parse_number}
 use Rattle.wordfields.specs.Words.{parse_words}
 use Rattle.forms.specs.declared.Form.{Form}
 use Rattle.formmaker.specs.Making.{no_form}
-use Rattle.formline.specs.declared.LineKind.{LineKind}
-use Rattle.formline.specs.declared.LineKind.TheVariants.{Says, TooGreat, Malformed}
-use Rattle.formline.specs.declared.FormLine.{FormLine}
+use Rattle.formline.specs.declared.TooGreat.{TooGreat}
 
 abbrev pub field_then : {A : Type 0} → Option A → Option (List ℕ) → (A → List ℕ → Option Form) → Option Form
 field_then none rest next = none
@@ -64,10 +63,7 @@ abbrev pub held_of : Option Form → Held
 held_of none = malformed no_form
 held_of (some f) = cond (ltb f.sets 65536 && ltb f.symbols 256) (says f) (too_great no_form)
 
-abbrev pub held_by : LineKind → Form → Held
-held_by Says f = says f
-held_by TooGreat f = too_great f
-held_by Malformed f = malformed f
-
-abbrev pub line_means : FormLine → Held
-line_means r = held_by r.kind r.form
+abbrev pub line_means : code.Option (Result Form TooGreat) → Held
+line_means None = malformed no_form
+line_means (Some (Err great)) = too_great no_form
+line_means (Some (Ok form)) = says form

@@ -6,15 +6,15 @@
 --   Made           the outcome: the number of a refusal, if it is one, and the form
 --   made_of j       the outcome on the judge j: 20 where it has no rule, and then zeros
 --   made_outcome      what the code's result says
-use Rattle.std.specs.Prelude.{[], ◌∷◌, ℕ, min, replicate}
+use Rattle.std.specs.Prelude.{Result, Ok, Err, [], ◌∷◌, ℕ, min, replicate}
 use Rattle.std.proofs.Math.Option.{Option, none, some}
-use Rattle.base.specs.Answers.{answer_number}
+use Rattle.base.specs.declared.Refusal.{Refusal}
+use Rattle.base.specs.Answers.{refusal_number}
 use Rattle.base.specs.Conditions.{on, first_of}
 use Rattle.limits.specs.Limits.{most_symbols, most_sets, table_cells}
 use Rattle.calls.specs.declared.Judge.{Judge}
 use Rattle.calls.specs.mirror.Steps.{lacks_rule}
 use Rattle.forms.specs.declared.Form.{Form}
-use Rattle.forms.specs.declared.FormResult.{FormResult}
 use Rattle.forms.specs.Form.{form_of}
 
 abbrev pub form_in : Judge → Form
@@ -40,5 +40,6 @@ made_by (some number) f = record { number = some number; form = no_form }
 abbrev pub made_of : Judge → Made
 made_of j = made_by (first_of (on 20 (lacks_rule j) ∷ [])) (form_in j)
 
-abbrev pub made_outcome : FormResult → Made
-made_outcome r = record { number = answer_number r.answer; form = r.form }
+abbrev pub made_outcome : Result Form Refusal → Made
+made_outcome (Ok form) = record { number = none; form = form }
+made_outcome (Err refusal) = record { number = some (refusal_number refusal); form = no_form }

@@ -6,9 +6,9 @@ ghost use Rattle.limits.specs.Limits.{most_symbols, most_sets, table_cells};
 ghost use Rattle.forms.specs.Form.{equal_cells, failure_of, keeps_from, kept_mask, packed_cells, failures, masks, form_of};
 ghost use Rattle.formmaker.specs.Making.{no_form, made_outcome, made_of};
 
-use base::Answer;
+use base::Refusal;
 use calls::Judge;
-use forms::{Form, FormResult};
+use forms::Form;
 
 // In how many symbols two sets have equal cells.
 fn equal_cells(next: &[u16; limits::CELLS], k: usize, t: usize, u: usize) -> usize
@@ -16,12 +16,10 @@ fn equal_cells(next: &[u16; limits::CELLS], k: usize, t: usize, u: usize) -> usi
     ensures { result ≡ equal_cells next.now k t u }
 {
     let mut count: usize = 0;
-    let mut s: usize = 0;
-    while s < k {
+    for s in 0..k {
         if next[t * limits::SYMBOLS + s] == next[u * limits::SYMBOLS + s] {
             count += 1;
         }
-        s += 1;
     }
     count
 }
@@ -33,14 +31,12 @@ fn failure_of(next: &[u16; limits::CELLS], k: usize, t: usize) -> usize
 {
     let mut best: usize = 0;
     let mut most = equal_cells(next, k, t, 0);
-    let mut u: usize = 0;
-    while u < t {
+    for u in 0..t {
         let equal = equal_cells(next, k, t, u);
         if most < equal {
             best = u;
             most = equal;
         }
-        u += 1;
     }
     best
 }
@@ -62,12 +58,10 @@ fn kept_mask(next: &[u16; limits::CELLS], k: usize, t: usize, failure: usize) ->
     ensures { result ≡ kept_mask next.now k t }
 {
     let mut mask: u16 = 0;
-    let mut s: usize = 0;
-    while s < k {
+    for s in 0..k {
         if keep(next, t, failure, s) {
             mask = mask | masks::only_symbol(s);
         }
-        s += 1;
     }
     mask
 }
@@ -83,13 +77,11 @@ fn mark_sets(
     requires { (sets ≤ most_sets) × (k ≤ most_symbols) × (failure.old ≡ replicate most_sets 0) × (kept.old ≡ replicate most_sets 0) }
     ensures { (failure.new ≡ failures sets k next.now) × (kept.new ≡ masks sets k next.now) }
 {
-    let mut t: usize = 0;
-    while t < sets {
+    for t in 0..sets {
         let f = failure_of(next, k, t);
         let mask = kept_mask(next, k, t, f);
         failure[t] = f as u16;
         kept[t] = mask;
-        t += 1;
     }
 }
 
@@ -104,13 +96,11 @@ fn pack(
     ensures { cells.new ≡ packed_cells kept.now next.now sets }
 {
     let mut at: usize = 0;
-    let mut c: usize = 0;
-    while c < sets * limits::SYMBOLS {
+    for c in 0..sets * limits::SYMBOLS {
         if forms::has_symbol(kept[c / limits::SYMBOLS], c % limits::SYMBOLS) {
             cells[at] = next[c];
             at += 1;
         }
-        c += 1;
     }
 }
 
@@ -155,21 +145,17 @@ pub fn no_form() -> Form
     }
 }
 
-// The failure form of the judge's next-set table, or a refusal with 20 where it has no rule. Any
-// value is taken: more than 512 sets count as 512, and more than 16 symbols as 16.
-pub fn make_form(judge: Judge) -> FormResult
+// The failure form of the judge's next-set table, or refused where it has no rule (20). Any value is
+// taken: more than 512 sets count as 512, and more than 16 symbols as 16.
+pub fn make_form(judge: Judge) -> Result<Form, Refusal>
     ensures { made_outcome result ≡ made_of judge }
 {
     let built = judge.built;
     if built.n == 0 {
-        let form = no_form();
-        let answer = Answer::Refused(20);
-        return FormResult { answer, form };
+        return Err(Refusal::NoRule);
     }
     let next = built.next;
-    let sets = base::at_most(built.setcount as usize, limits::SETS) as u16;
-    let symbols = base::at_most_u8(built.k, limits::MOST_SYMBOLS);
-    let form = to_form(&next, sets, symbols);
-    let answer = Answer::Accepted;
-    FormResult { answer, form }
+    let sets = (built.setcount as usize).min(limits::SETS) as u16;
+    let symbols = built.k.min(limits::MOST_SYMBOLS);
+    Ok(to_form(&next, sets, symbols))
 }

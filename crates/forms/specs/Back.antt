@@ -7,18 +7,18 @@
 --                   order; none where it is accepted
 --   table_of f       the table; a cell that is not in use is 512, as in a built rule
 --   Back            the outcome: the number of a refusal, if it is one, and the table
---   back_of f       the outcome of the form f; a refusal carries zeros
+--   back_of f       the outcome of the form f; zeros stand beside a refusal
 --   back_outcome      what the code's result says
-use Rattle.std.specs.Prelude.{Bool, cond, not, ◌&&◌, ◌||◌, List, [], ◌∷◌, ℕ, zero, suc, ◌+◌, ◌*◌, ◌/◌, ◌%◌, ◌^◌, eqb, ltb, leb, get_or, replicate}
+use Rattle.std.specs.Prelude.{Result, Ok, Err, Bool, cond, not, ◌&&◌, ◌||◌, List, [], ◌∷◌, ℕ, zero, suc, ◌+◌, ◌*◌, ◌/◌, ◌%◌, ◌^◌, eqb, ltb, leb, get_or, replicate}
 use Rattle.std.proofs.Math.Option.{Option, none, some}
-use Rattle.base.specs.Answers.{answer_number}
+use Rattle.base.specs.declared.Refusal.{Refusal}
+use Rattle.base.specs.Answers.{refusal_number}
 use Rattle.base.specs.Conditions.{Condition, on, first_of, outside, any_below}
 use Rattle.base.specs.Lists.{list_from}
 use Rattle.limits.specs.Limits.{most_symbols, most_sets, empty_set, table_cells}
 use Rattle.masks.specs.Masks.{has}
 use Rattle.forms.specs.declared.Form.{Form}
 use Rattle.forms.specs.declared.Table.{Table}
-use Rattle.forms.specs.declared.BackResult.{BackResult}
 use Rattle.forms.specs.Form.{how_many, kept_at}
 
 -- ---- a cell
@@ -102,5 +102,6 @@ abbrev pub back_of : Form → Back
 back_of f = back_by (back_number f) (table_of f)
 
 -- ---- the code's answer
-abbrev pub back_outcome : BackResult → Back
-back_outcome r = record { number = answer_number r.answer; table = r.table }
+abbrev pub back_outcome : Result Table Refusal → Back
+back_outcome (Ok table) = record { number = none; table = table }
+back_outcome (Err refusal) = record { number = some (refusal_number refusal); table = no_table }

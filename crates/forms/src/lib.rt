@@ -1,12 +1,9 @@
-// The failure form of a next-set table, the table that it stands for, and what the two conversions
-// answer.
+// The failure form of a next-set table, and the table that it stands for.
 #![tactic(auto)]
 
 ghost use Rattle.std.specs.Prelude.{◌≡◌, ◌<◌};
 ghost use Rattle.limits.specs.Limits.{most_symbols};
 ghost use Rattle.masks.specs.Masks.{has};
-
-use base::Answer;
 
 // For each set its failure set and the mask of its kept cells, bit s for symbol s; then the kept
 // cells, packed by set and symbol, 512 for an empty one. The rest is 0.
@@ -27,20 +24,6 @@ pub struct Table {
     pub sets: u16,
     pub symbols: u8,
     pub next: [u16; limits::CELLS],
-}
-
-// The answer with the form beside it, which is all zeros where it is refused.
-#[derive(Clone, Copy)]
-pub struct FormResult {
-    pub answer: Answer,
-    pub form: Form,
-}
-
-// The answer with the table beside it, which is all zeros where it is refused.
-#[derive(Clone, Copy)]
-pub struct BackResult {
-    pub answer: Answer,
-    pub table: Table,
 }
 
 // Whether the mask has the bit of a symbol.

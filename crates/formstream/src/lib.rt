@@ -3,14 +3,14 @@
 
 ghost use Rattle.std.specs.Prelude.{◌+◌, ◌≤◌, length};
 ghost use Rattle.text.specs.Writing.{Wrote};
+ghost use Rattle.answers.specs.Answers.{malformed_text};
 ghost use Rattle.linetexts.specs.Feeding.{finish_of};
-ghost use Rattle.linetexts.specs.Beginnings.{held_step};
 ghost use Rattle.linetexts.specs.Alone.{line_state, FedLines};
 ghost use Rattle.formline.specs.Lines.{longest_line};
 ghost use Rattle.tabletext.specs.Answers.{most_answer};
-ghost use Rattle.formstream.specs.Texts.{form_lines};
+ghost use Rattle.formstream.specs.Texts.{answer_to, form_lines};
 
-use linetexts::Round;
+use linetexts::{AnswersLines, Round};
 use longlines::Held;
 
 // Room for what is kept of a line: one byte more than the longest has, since a longer one is
@@ -20,17 +20,28 @@ pub const LINE: usize = 2 * limits::DIGITS + 8 * limits::SETS + 4 * limits::CELL
 // Room for an answer: four bytes for each cell of a table, and a line feed.
 pub const ANSWER: usize = 4 * limits::CELLS + 1;
 
-// The answer to a line that has ended.
-fn answer_held(line: &[u8], held: Held, out: &mut [u8], at: usize) -> usize
-    requires { at + most_answer ≤ length out.old }
-    ensures { Wrote out.old at (held_step form_lines tt line.now held).text out.new result }
-{
-    let seen = longlines::look(line, held);
-    let n = seen.length;
-    if seen.hex {
-        return tabletext::put_answer(out, at, &line[..n]);
+// The lines of formtable.
+#[derive(Clone, Copy)]
+struct FormLines;
+
+impl AnswersLines for FormLines {
+    const ROOM: usize = ANSWER;
+
+    ghost ROOM = { most_answer };
+
+    ghost answer = { answer_to };
+
+    ghost longest = { longest_line };
+
+    ghost overlong = { malformed_text };
+
+    fn put_answer(&mut self, line: &[u8], out: &mut [u8], at: usize) -> usize {
+        tabletext::put_answer(out, at, line)
     }
-    answers::put_malformed(out, at)
+
+    fn put_overlong(out: &mut [u8], at: usize) -> usize {
+        answers::put_malformed(out, at)
+    }
 }
 
 // The parts of a block from an index on, while there is room for their answers, which stand one
@@ -39,23 +50,7 @@ pub fn gather(held: Held, line: &mut [u8], out: &mut [u8], block: &[u8], from: u
     requires { longest_line + 2 ≤ length line.old }
     ensures { FedLines form_lines held line.old out.old block.now from line.new out.new result }
 {
-    let mut held = held;
-    let mut at = from;
-    let mut written: usize = 0;
-    while at < block.len() {
-        if out.len() - written < ANSWER {
-            break;
-        }
-        let part = linetexts::take_part(held, line, block, at);
-        at = part.at;
-        held = part.held;
-        if !part.ends {
-            continue;
-        }
-        written = answer_held(line, held, out, written);
-        held = longlines::nothing();
-    }
-    Round { held, at, written }
+    linetexts::gather(&mut FormLines, held, line, out, block, from)
 }
 
 // The end of the text: a last line that is not empty is answered.
@@ -63,8 +58,5 @@ pub fn finish(held: Held, line: &[u8], out: &mut [u8]) -> usize
     requires { (longest_line + 2 ≤ length line.now) × (most_answer ≤ length out.old) }
     ensures { Wrote out.old 0 (finish_of form_lines (line_state held line.now)).text out.new result }
 {
-    if held.length == 0 {
-        return 0;
-    }
-    answer_held(line, held, out, 0)
+    linetexts::finish(&mut FormLines, held, line, out)
 }

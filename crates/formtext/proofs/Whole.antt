@@ -1,18 +1,17 @@
 -- What the parts of the text come to, over plain variables. Assumes nothing.
-use mathlib.Core.Path.{◌≡◌, sym, ap, ◌∙◌}
+use Rattle.std.proofs.Common.{Ok, Err}
+use mathlib.Core.Path.{◌≡◌, ap}
 use mathlib.Core.List.{List}
 use Prim.Native.Nat.{ℕ, ◌+◌, ◌*◌, ◌≤◌, min}
 use native.Mathlib.Omega.{arith}
 use lib.ListN.{length}
-use Rattle.base.specs.Answers.{answer_number}
+use Rattle.base.specs.declared.Refusal.{Refusal}
+use Rattle.base.specs.Answers.{refusal_number}
 use Rattle.base.specs.Lists.{joined}
 use Rattle.text.specs.Writing.{Wrote}
 use Rattle.text.proofs.Fitting.{put, ◌then◌}
 use Rattle.ruletext.specs.RuleText.{refused_text}
 use Rattle.forms.specs.declared.Form.{Form}
-use Rattle.base.specs.declared.Answer.{Answer}
-use Rattle.base.specs.declared.Answer.TheVariants.{Accepted, Refused}
-use Rattle.forms.specs.declared.FormResult.{FormResult}
 use Rattle.formmaker.specs.Making as making
 use Rattle.formmaker.specs.Making.{made_outcome}
 use Rattle.formfile.specs.Files.{form_for}
@@ -29,12 +28,9 @@ whole f count kept c-is k-is room head lines =
     let v = put (omega (arith, lines.0.ends, lines.1, head.1, u.kept)) lines.0 in
     (rw (k-is, c-is) at (u then v).wrote, omega (arith, lines.1, head.1, c-is))
 
-module _ (f : List ℕ) (r : FormResult) (is : made_outcome r ≡ form_for f) where
-  text_is : text_by (answer_number r.answer) r.form ≡ text_for f
-  text_is = ap (λ (m : making.Made). text_by m.number m.form) is
+module _ (f : List ℕ) where
+  pub form_text_lem : (form : Form) → made_outcome (Ok form) ≡ form_for f → form_text form ≡ text_for f
+  form_text_lem form is = ap (λ (m : making.Made). text_by m.number m.form) is
 
-  pub form_text_lem : r.answer ≡ Accepted → form_text r.form ≡ text_for f
-  form_text_lem e = sym (ap (λ (a : Answer). text_by (answer_number a) r.form) e) ∙ text_is
-
-  pub refused_text_lem : (x : ℕ) → r.answer ≡ Refused x → refused_text x ≡ text_for f
-  refused_text_lem x e = sym (ap (λ (a : Answer). text_by (answer_number a) r.form) e) ∙ text_is
+  pub refused_text_lem : (e : Refusal) → made_outcome (Err e) ≡ form_for f → refused_text (refusal_number e) ≡ text_for f
+  refused_text_lem e is = ap (λ (m : making.Made). text_by m.number m.form) is

@@ -9,7 +9,6 @@ ghost use Rattle.text.specs.Writing.{Wrote};
 ghost use Rattle.ruletext.specs.RuleText.{space, field};
 ghost use Rattle.formtext.specs.FormText.{bits_in, first_cell, cells_text, line_text, set_line, head_line, form_text, text_for, most_bytes};
 
-use base::Answer;
 use forms::Form;
 use subsets::SetNumber;
 
@@ -21,12 +20,10 @@ fn bits_in(mask: u16) -> usize
     ensures { (result ≤ most_symbols) × (result ≡ bits_in mask) }
 {
     let mut n: usize = 0;
-    let mut s: usize = 0;
-    while s < limits::SYMBOLS {
+    for s in 0..limits::SYMBOLS {
         if forms::has_symbol(mask, s) {
             n += 1;
         }
-        s += 1;
     }
     n
 }
@@ -72,11 +69,9 @@ fn put_cells(
     ensures { (Wrote out.old start (cells_text cells.now first n) out.new result) × (result ≤ start + 64) }
 {
     let mut at = start;
-    let mut i: usize = 0;
-    while i < n {
+    for i in 0..n {
         let to = cells[first + i];
         at = ruletext::put_cell(out, at, SetNumber(to));
-        i += 1;
     }
     at
 }
@@ -125,15 +120,13 @@ fn put_sets(
 {
     let mut at = start;
     let mut first: usize = 0;
-    let mut t: usize = 0;
-    while t < count {
+    for t in 0..count {
         let mask = kept[t];
         let n = bits_in(mask);
         let fails = failure[t];
         let set = SetNumber(t as u16);
         at = put_set(out, at, set, SetNumber(fails), mask, cells, first, n);
         first += n;
-        t += 1;
     }
     at
 }
@@ -144,10 +137,8 @@ fn count_kept(kept: &[u16; limits::SETS], count: usize) -> usize
     ensures { (result ≤ table_cells) × (result ≡ first_cell kept.now count) }
 {
     let mut n: usize = 0;
-    let mut t: usize = 0;
-    while t < count {
+    for t in 0..count {
         n += bits_in(kept[t]);
-        t += 1;
     }
     n
 }
@@ -157,7 +148,7 @@ fn put_form(out: &mut [u8], form: Form) -> usize
     requires { most_bytes ≤ length out.old }
     ensures { (Wrote out.old 0 (form_text form) out.new result) × (result ≤ most_bytes) }
 {
-    let count = base::at_most(form.sets as usize, limits::SETS);
+    let count = (form.sets as usize).min(limits::SETS);
     let failure = form.failure;
     let kept = form.kept;
     let cells = form.cells;
@@ -171,10 +162,8 @@ pub fn print_form(file: &[u8], out: &mut [u8]) -> usize
     requires { most_bytes ≤ length out.old }
     ensures { (Wrote out.old 0 (text_for file.now) out.new result) × (result ≤ most_bytes) }
 {
-    let made = formfile::form_in(file);
-    let answer = made.answer;
-    match answer {
-        Answer::Accepted => put_form(out, made.form),
-        Answer::Refused(number) => answers::put_refused(out, 0, number),
+    match formfile::form_in(file) {
+        Ok(form) => put_form(out, form),
+        Err(refusal) => answers::put_refused(out, 0, refusal.number()),
     }
 }

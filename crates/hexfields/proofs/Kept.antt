@@ -1,14 +1,13 @@
 -- What the code keeps of a field. Assumes nothing.
 --
 --   kept_none, kept_room, kept_full   no byte; one more where there is room, and where there is none
---   told, end_nothing, ..             the field ends here
+--   told                              the field ends here
 --   nothing_digit, ..                 it goes on
 --   pair_room, .., to_digit, ..       what the code does with a byte more, by the way it takes
 --   reads_on                          whatever was kept, it keeps with the byte more
 use mathlib.Core.Path.{◌≡◌, refl, sym, ap, ◌∙◌, subst}
 use mathlib.Core.Bool.{true, false}
 use mathlib.Core.List.{List, [], ◌∷◌, ◌++◌}
-use mathlib.Core.Option.{none, some}
 use Prim.Native.Nat.{ℕ, ◌+◌, ◌*◌, ◌%◌, ◌<◌, ◌≤◌}
 use native.Mathlib.Numerals.{add-one}
 use native.Mathlib.Omega.{arith}
@@ -72,23 +71,6 @@ told b p buffer keeps_dash = (0, refl, kept_none buffer)
 told b p buffer (keeps_even {n} k) = (n, refl, k)
 told b p buffer (keeps_odd h k) = refl
 told b p buffer keeps_stray = refl
-
--- `end`, by the case
-module _ (p : Part) where
-  pub end_nothing : p ≡ part.Nothing → none ≡ end_of p
-  end_nothing e = rw e
-
-  pub end_dash : p ≡ part.Dash → some 0 ≡ end_of p
-  end_dash e = rw e
-
-  pub end_even : (n : ℕ) → p ≡ part.Even n → some n ≡ end_of p
-  end_even n e = rw e
-
-  pub end_odd : (n high : ℕ) → p ≡ part.Odd n high → none ≡ end_of p
-  end_odd n high e = rw e
-
-  pub end_stray : p ≡ part.Stray → none ≡ end_of p
-  end_stray e = rw e
 
 -- ---- a byte more, by what was kept
 module _ (before : List ℕ) (p : Part) (c v : ℕ) (is : v ≡ hex_value c) where

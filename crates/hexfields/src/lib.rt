@@ -2,12 +2,10 @@
 #![tactic(auto)]
 
 ghost use Rattle.std.specs.Prelude.{◌≡◌, ◌+◌, ◌*◌, ◌≤◌, length};
+ghost use Rattle.base.specs.Options.{option_of};
 ghost use Rattle.text.specs.Writing.{Wrote};
-ghost use Rattle.fields.specs.Bytes.{bytes_means};
 ghost use Rattle.fields.specs.Claims.{digits_of};
 ghost use Rattle.hexfields.specs.Reading.{pair_of, read_of, end_of};
-
-use fields::Bytes;
 
 // What of a field has been read: nothing, the `-` for no bytes, pairs of digits, pairs and a digit
 // more with its value; or no field begins so. Of the pairs, as many bytes as it has room for stand
@@ -64,16 +62,14 @@ pub fn read_on(buffer: &mut [u8], part: Part, c: u8) -> Part
     }
 }
 
-// The field ends: how many bytes stand in the buffer, or that it is none.
-pub fn end(part: Part) -> Bytes
-    ensures { bytes_means result ≡ end_of part }
+// The field ends: how many bytes stand in the buffer, if it is one.
+pub fn end(part: Part) -> Option<usize>
+    ensures { option_of result ≡ end_of part }
 {
     match part {
-        Part::Dash => Bytes::Put(0),
-        Part::Even(n) => Bytes::Put(n),
-        Part::Nothing => Bytes::Malformed,
-        Part::Odd(_, _) => Bytes::Malformed,
-        Part::Stray => Bytes::Malformed,
+        Part::Dash => Some(0),
+        Part::Even(n) => Some(n),
+        Part::Nothing | Part::Odd(_, _) | Part::Stray => None,
     }
 }
 
@@ -83,10 +79,8 @@ pub fn put_digits(out: &mut [u8], at: usize, bytes: &[u8]) -> usize
     ensures { Wrote out.old at (digits_of bytes.now) out.new result }
 {
     let mut end = at;
-    let mut i: usize = 0;
-    while i < bytes.len() {
-        end = text::put_hex(out, end, 2, bytes[i] as u64);
-        i += 1;
+    for byte in bytes {
+        end = text::put_hex(out, end, 2, *byte as u64);
     }
     end
 }

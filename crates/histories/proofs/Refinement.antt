@@ -6,92 +6,140 @@
 -- each answer type has a value that says what the definition wants.
 use mathlib.Core.Path.{◌≡◌, refl, sym, ap, ap₂, ◌∙◌}
 use mathlib.Core.Logic.{◌↔◌}
-use mathlib.Core.List.{List, []}
+use mathlib.Core.Bool.{Bool, true, false, cond}
+use mathlib.Core.List.{List, [], ◌∷◌, ◌++◌}
 use mathlib.Core.Option.{Option, none, some}
 use Prim.Native.Nat.{ℕ}
+use lib.Dec.{eqb}
 use denote.Ref.{Bor}
-use Rattle.base.specs.Conditions.{first_of}
+use Rattle.std.proofs.Common.{Ok, Err}
+use Rattle.base.specs.declared.Refusal.{Refusal}
+use Rattle.base.specs.declared.Refusal.TheVariants.{TooShort, TooLong, StateCount, SymbolCount, CutPairs, StrayState, BadPairs, BadArcs, TooManySets, PlaceCount, NoPlace, LongChunk, ForeignByte, NoRule, NoBoard, NotDue, EmptyPlace}
+use Rattle.base.specs.Answers.{refusal_number}
+use Rattle.base.specs.Conditions.{Condition, on, first_of}
 use Rattle.executions.specs.Executions.{Execution, Meets}
 use Rattle.executions.proofs.Executions.{execution_law}
 use Rattle.automaton.specs.declared.Rule.{Rule}
 use Rattle.ruleformat.specs.Reader.{rule_of}
 use Rattle.build.specs.mirror.Building.{built_of}
-use Rattle.board.specs.Boards.{places_of, is_empty, comes_late, empty_board, filled_at, cleared_at}
+use Rattle.rulecheck.specs.Checking.{rule_conditions}
+use Rattle.ruleformat.specs.Refusals.{file_conditions}
+use Rattle.board.specs.Boards.{places_of, is_empty, comes_late, empty_board, filled_at, cleared_at, empty_places, summed_count, summed_bytes}
 use Rattle.calls.specs.declared.Judge.{Judge}
 use Rattle.calls.specs.declared.InstallResult.{InstallResult}
-use Rattle.build.specs.declared.BuildAnswer.TheVariants as installation
 use Rattle.calls.specs.declared.CallResult.{CallResult}
-use Rattle.base.specs.declared.Answer.TheVariants as opening
 use Rattle.calls.specs.declared.DeliverResult.{DeliverResult}
-use Rattle.calls.specs.declared.DeliverAnswer.TheVariants as delivery
 use Rattle.calls.specs.declared.Report.{Report}
 use Rattle.calls.specs.declared.Verdict.{Verdict}
 use Rattle.calls.specs.declared.Verdict.TheVariants as verdict
-use Rattle.calls.specs.Replies.{Judgement, waiting, yes_with, no_with, refused_with, Reported, Reply, accepted, installed, judged, verdict_means, report_means, delivered, Outcome, install_outcome, call_outcome, deliver_outcome}
-use Rattle.calls.specs.Calls.{Call, installs, loads, opens, delivers, withdraws, asks_verdict, install_number, load_number, open_conditions, deliver_conditions, withdraw_conditions}
-use Rattle.calls.specs.mirror.Steps.{lacks_rule, lacks_board, with_board, outcome_by, with_rule, runs_at, install_of, load_of, open_of, deliver_of, withdraw_of, report_of, step_of}
+use Rattle.calls.specs.Replies.{Judgement, waiting, yes_with, no_with, refused_with, refusal_in, Reported, Reply, accepted, refused, installed, judged, verdict_means, report_means, delivered, Outcome, install_outcome, call_outcome, deliver_outcome}
+use Rattle.calls.specs.Calls.{Call, installs, loads, opens, delivers, withdraws, asks_verdict, many_sets, install_number, load_number, report_by, open_conditions, deliver_conditions, withdraw_conditions}
+use Rattle.calls.specs.mirror.Steps.{lacks_rule, lacks_board, with_board, outcome_by, with_rule, runs_at, install_of, load_of, open_of, deliver_of, withdraw_of, is_yes, verdict_of, report_of, step_of}
 use Rattle.judge.proofs.Asks.{new_judge_asks_nothing, install_asks_nothing, load_asks_nothing, open_asks_nothing, deliver_asks_nothing, withdraw_asks_nothing, verdict_asks_nothing}
 use Rattle.histories.specs.Claims.{judge_machine, judge_after, replies_to}
 use Rattle.histories.specs.Functions.{AsksStep, MayStep, judge_library}
 
+-- ---- the number of a refusal, as a refusal
+-- the number is a refusal's, where there is one
+abbrev pub Answerable : Option ℕ → Type 0
+Answerable none = Unit {0}
+Answerable (some x) = (r : Refusal) × (refusal_number r ≡ x)
+
+-- the number of each condition is a refusal's
+abbrev pub Numbered : List Condition → Type 0
+Numbered [] = Unit {0}
+Numbered (on number test ∷ cs) = Answerable (some number) × Numbered cs
+
+by_first : (number : ℕ) (test : Bool) (cs : List Condition) → Answerable (some number) → Answerable (first_of cs) → Answerable (first_of (on number test ∷ cs))
+by_first number true cs a b = a
+by_first number false cs a b = b
+
+pub answerable : (cs : List Condition) → Numbered cs → Answerable (first_of cs)
+answerable [] n = tt
+answerable (on number test ∷ cs) n = by_first number test cs n.0 (answerable cs n.1)
+
 -- ---- the outcome of a call, as a value of its answer type
 module _ (j next : Judge) where
-  an_installation : (number : Option ℕ) (sets m : ℕ) → (r : InstallResult) × (install_outcome r ≡ outcome_by number (installed sets m) j next)
-  an_installation none sets m = (record { answer = installation.Accepted sets m; judge = next }, refl)
-  an_installation (some x) sets m = (record { answer = installation.Refused x; judge = j }, refl)
+  an_installation : (number : Option ℕ) → Answerable number → (sets m : ℕ)
+      → (r : InstallResult) × (install_outcome r ≡ outcome_by number (installed sets m) j next)
+  an_installation none a sets m = (record { answer = Ok (record { sets = sets; starts = m }); judge = next }, refl)
+  an_installation (some x) a sets m = (record { answer = Err a.0; judge = j }, ap (λ (y : ℕ). record { reply = refused y; state = j }) a.1)
 
-  an_opening : (number : Option ℕ) → (r : CallResult) × (call_outcome r ≡ outcome_by number accepted j next)
-  an_opening none = (record { answer = opening.Accepted; judge = next }, refl)
-  an_opening (some x) = (record { answer = opening.Refused x; judge = j }, refl)
+  -- of opening and of withdrawing
+  an_acceptance : (number : Option ℕ) → Answerable number → (r : CallResult) × (call_outcome r ≡ outcome_by number accepted j next)
+  an_acceptance none a = (record { answer = Ok tt; judge = next }, refl)
+  an_acceptance (some x) a = (record { answer = Err a.0; judge = j }, ap (λ (y : ℕ). record { reply = refused y; state = j }) a.1)
 
-  a_delivery : (number : Option ℕ) (looked : ℕ) → (r : DeliverResult) × (deliver_outcome r ≡ outcome_by number (delivered looked) j next)
-  a_delivery none looked = (record { answer = delivery.Accepted looked; judge = next }, refl)
-  a_delivery (some x) looked = (record { answer = delivery.Refused x; judge = j }, refl)
+  a_delivery : (number : Option ℕ) → Answerable number → (looked : ℕ)
+      → (r : DeliverResult) × (deliver_outcome r ≡ outcome_by number (delivered looked) j next)
+  a_delivery none a looked = (record { answer = Ok looked; judge = next }, refl)
+  a_delivery (some x) a looked = (record { answer = Err a.0; judge = j }, ap (λ (y : ℕ). record { reply = refused y; state = j }) a.1)
 
-  a_withdrawal : (number : Option ℕ) → (r : CallResult) × (call_outcome r ≡ outcome_by number accepted j next)
-  a_withdrawal none = (record { answer = opening.Accepted; judge = next }, refl)
-  a_withdrawal (some x) = (record { answer = opening.Refused x; judge = j }, refl)
+a_judgement : (v : Judgement) → Answerable (refusal_in v) → (x : Verdict) × (verdict_means x ≡ v)
+a_judgement (waiting empty) a = (verdict.Waiting empty, refl)
+a_judgement (yes_with count) a = (verdict.Yes count, refl)
+a_judgement (no_with count) a = (verdict.No count, refl)
+a_judgement (refused_with number) a = (verdict.Refused a.0, ap refused_with a.1)
 
-a_judgement : (v : Judgement) → (x : Verdict) × (verdict_means x ≡ v)
-a_judgement (waiting empty) = (verdict.Waiting empty, refl)
-a_judgement (yes_with count) = (verdict.Yes count, refl)
-a_judgement (no_with count) = (verdict.No count, refl)
-a_judgement (refused_with number) = (verdict.Refused number, refl)
-
-a_report : (r : Reported) → (x : Report) × (report_means x ≡ r)
-a_report r =
-    let v = a_judgement r.verdict in (
+a_report : (r : Reported) → Answerable (refusal_in r.verdict) → (x : Report) × (report_means x ≡ r)
+a_report r a =
+    let v = a_judgement r.verdict a in (
       record { verdict = v.0; bytes = r.bytes; quotient = r.quotient; remainder = r.remainder },
       ap (λ (w : Judgement). record { verdict = w; bytes = r.bytes; quotient = r.quotient; remainder = r.remainder }) v.1,
     )
 
+-- a verdict is refused with 21 alone
+answerable_verdict : (lacks none-empty says : Bool) (empty sum bytes : ℕ)
+    → Answerable (refusal_in (report_by (cond lacks (refused_with 21) (cond none-empty (cond says (yes_with sum) (no_with sum)) (waiting empty))) bytes).verdict)
+answerable_verdict true none-empty says empty sum bytes = (NoBoard, refl)
+answerable_verdict false false says empty sum bytes = tt
+answerable_verdict false true true empty sum bytes = tt
+answerable_verdict false true false empty sum bytes = tt
+
 module _ (j : Judge) where
   installation_of : (rule : Rule) → (r : InstallResult) × (install_outcome r ≡ install_of j rule)
-  unfolding install_of
-  installation_of rule = an_installation j (with_rule rule) (install_number rule) (built_of rule).setcount (built_of rule).startcount
+  unfolding install_of install_number
+  installation_of rule =
+      an_installation j (with_rule rule) (install_number rule)
+      (answerable (rule_conditions rule ++ many_sets rule) ((StateCount, refl), ((SymbolCount, refl), ((StrayState, refl), ((BadArcs, refl), ((TooManySets, refl), tt))))))
+      (built_of rule).setcount
+      (built_of rule).startcount
 
   loading_of : (f : List ℕ) → (r : InstallResult) × (install_outcome r ≡ load_of j f)
-  unfolding load_of
+  unfolding load_of load_number
   loading_of f =
-      let rule = rule_of f in an_installation j (with_rule rule) (load_number f) (built_of rule).setcount (built_of rule).startcount
+      let rule = rule_of f in
+      an_installation j (with_rule rule) (load_number f)
+      (answerable (file_conditions f ++ many_sets rule)
+      ((TooShort, refl), ((TooLong, refl), ((StateCount, refl), ((SymbolCount, refl), ((CutPairs, refl), ((StrayState, refl), ((BadPairs, refl), ((BadArcs, refl), ((TooManySets, refl), tt))))))))))
+      (built_of rule).setcount
+      (built_of rule).startcount
 
   opening_of : (n : ℕ) → (r : CallResult) × (call_outcome r ≡ open_of j n)
   unfolding open_of
-  opening_of n = an_opening j (with_board j (empty_board n)) (first_of (open_conditions (lacks_rule j) n))
+  opening_of n =
+      let cs = open_conditions (lacks_rule j) n in
+      an_acceptance j (with_board j (empty_board n)) (first_of cs) (answerable cs ((NoRule, refl), ((PlaceCount, refl), tt)))
 
   delivery_of : (p v : ℕ) (w : List ℕ) → (r : DeliverResult) × (deliver_outcome r ≡ deliver_of j p v w)
   unfolding deliver_of
   delivery_of p v w =
-      a_delivery j (with_board j (filled_at j.board p v (runs_at j p w)))
-      (first_of
-      (deliver_conditions (lacks_board j) (places_of j.board) p w j.built.k (comes_late j.board p v)))
+      let cs = deliver_conditions (lacks_board j) (places_of j.board) p w j.built.k (comes_late j.board p v) in
+      a_delivery j (with_board j (filled_at j.board p v (runs_at j p w))) (first_of cs)
+      (answerable cs ((NoBoard, refl), ((NoPlace, refl), ((LongChunk, refl), ((ForeignByte, refl), ((NotDue, refl), tt))))))
       (runs_at j p w).looked
 
   withdrawal_of : (p : ℕ) → (r : CallResult) × (call_outcome r ≡ withdraw_of j p)
   unfolding withdraw_of
   withdrawal_of p =
-      a_withdrawal j (with_board j (cleared_at j.board p))
-      (first_of (withdraw_conditions (lacks_board j) (places_of j.board) p (is_empty j.board p)))
+      let cs = withdraw_conditions (lacks_board j) (places_of j.board) p (is_empty j.board p) in
+      an_acceptance j (with_board j (cleared_at j.board p)) (first_of cs) (answerable cs ((NoBoard, refl), ((NoPlace, refl), ((EmptyPlace, refl), tt))))
+
+  verdict_for : (x : Report) × (report_means x ≡ report_of j)
+  unfolding verdict_of
+  verdict_for =
+      a_report (report_of j)
+      (answerable_verdict (lacks_board j) (eqb (empty_places j.board) 0) (is_yes j) (empty_places j.board) (summed_count j.board) (summed_bytes j.board))
 
 -- ---- the library meets the machine
 -- a reference to bytes, somewhere
@@ -129,7 +177,7 @@ step_back j (delivers p v w) a next e =
 step_back j (withdraws p) a next e =
     let r = withdrawal_of j p in
     (r.0, ((j, (p, tt)), r.1), whole a next (withdraw_of j p) e ∙ sym r.1)
-step_back j asks_verdict a next e = let r = a_report (report_of j) in (r.0, ((j, tt), r.1), e.0 ∙ ap judged (sym r.1), e.1)
+step_back j asks_verdict a next e = let r = verdict_for j in (r.0, ((j, tt), r.1), e.0 ∙ ap judged (sym r.1), e.1)
 
 asks_nothing : (j : Judge) (c : Call) → AsksStep j c
 asks_nothing j (installs rule) = install_asks_nothing j rule

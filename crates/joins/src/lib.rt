@@ -36,10 +36,8 @@ pub fn join_place(
     ensures { result ≡ union (λ q. of_delegate (held_in ends.now place) (delegate_in delegates.now q)) set n }
 {
     let mut joined: u32 = 0;
-    let mut q: usize = 0;
-    while q < n {
+    for q in 0..n {
         let state = StateNumber(q as u8);
-        q += 1;
         if masks::member(set, state) {
             let DelegateAnswer::State(delegate) = delegates::delegate_at(delegates, state) else {
                 continue;
@@ -61,12 +59,10 @@ pub fn join_places(
     requires { places ≤ most_places }
     ensures { result ≡ join_up_to ends.now delegates.now n initials places }
 {
-    let states = base::at_most_u8(n, limits::MOST_STATES);
+    let states = n.min(limits::MOST_STATES);
     let mut set = initials;
-    let mut place: usize = 0;
-    while place < places {
+    for place in 0..places {
         set = join_place(ends, delegates, states as usize, set, place);
-        place += 1;
     }
     set
 }

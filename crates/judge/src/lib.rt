@@ -2,15 +2,14 @@
 #![tactic(auto)]
 
 ghost use Rattle.std.specs.Prelude.{◌≡◌, ◌<◌};
+ghost use Rattle.base.specs.Answers.{refusal_number};
 ghost use Rattle.calls.specs.Replies.{refused, report_means, install_outcome, call_outcome, deliver_outcome};
 ghost use Rattle.calls.specs.mirror.Steps.{fresh, with_board, install_of, load_of, open_of, deliver_of, withdraw_of, report_of};
 
 use automaton::Rule;
-use base::Answer;
+use base::Refusal;
 use board::Board;
-use build::BuildAnswer;
-use calls::{CallResult, DeliverAnswer, DeliverResult, InstallResult, Judge, Report};
-use chunks::Runs;
+use calls::{CallResult, DeliverResult, InstallResult, Judge, Report, Sizes};
 
 // A judge with no rule and no board.
 pub fn new_judge() -> Judge
@@ -29,25 +28,31 @@ fn with_board(judge: Judge, board: Board) -> Judge
     Judge { built, board }
 }
 
-fn refuse_rule(judge: Judge, number: u8) -> InstallResult
-    ensures { install_outcome result ≡ record { reply = refused number; state = judge } }
+fn refuse_rule(judge: Judge, refusal: Refusal) -> InstallResult
+    ensures { install_outcome result ≡ record { reply = refused (refusal_number refusal); state = judge } }
 {
-    let answer = BuildAnswer::Refused(number);
-    InstallResult { answer, judge }
+    InstallResult {
+        answer: Err(refusal),
+        judge,
+    }
 }
 
-fn refuse_call(judge: Judge, number: u8) -> CallResult
-    ensures { call_outcome result ≡ record { reply = refused number; state = judge } }
+fn refuse_call(judge: Judge, refusal: Refusal) -> CallResult
+    ensures { call_outcome result ≡ record { reply = refused (refusal_number refusal); state = judge } }
 {
-    let answer = Answer::Refused(number);
-    CallResult { answer, judge }
+    CallResult {
+        answer: Err(refusal),
+        judge,
+    }
 }
 
-fn refuse_delivery(judge: Judge, number: u8) -> DeliverResult
-    ensures { deliver_outcome result ≡ record { reply = refused number; state = judge } }
+fn refuse_delivery(judge: Judge, refusal: Refusal) -> DeliverResult
+    ensures { deliver_outcome result ≡ record { reply = refused (refusal_number refusal); state = judge } }
 {
-    let answer = DeliverAnswer::Refused(number);
-    DeliverResult { answer, judge }
+    DeliverResult {
+        answer: Err(refusal),
+        judge,
+    }
 }
 
 // Checks and builds a rule, which may be any value. Accepted, it replaces the former rule and
@@ -55,21 +60,21 @@ fn refuse_delivery(judge: Judge, number: u8) -> DeliverResult
 pub fn install(judge: Judge, rule: Rule) -> InstallResult
     ensures { install_outcome result ≡ install_of judge rule }
 {
-    let checked = rulecheck::check_rule(rule);
-    match checked {
-        Answer::Refused(number) => refuse_rule(judge, number),
-        Answer::Accepted => {
-            let building = build::build_rule(rule);
-            let answer = building.answer;
-            match answer {
-                BuildAnswer::Refused(number) => refuse_rule(judge, number),
-                BuildAnswer::Accepted(sets, starts) => {
-                    let built = building.built;
-                    let board = board::empty_board(0);
-                    let answer = BuildAnswer::Accepted(sets, starts);
-                    let judge = Judge { built, board };
-                    InstallResult { answer, judge }
-                }
+    if let Err(refusal) = rulecheck::check_rule(rule) {
+        return refuse_rule(judge, refusal);
+    }
+    match build::build_rule(rule) {
+        Err(refusal) => refuse_rule(judge, refusal),
+        Ok(built) => {
+            let sizes = Sizes {
+                sets: built.setcount,
+                starts: built.startcount,
+            };
+            let board = board::empty_board(0);
+            let judge = Judge { built, board };
+            InstallResult {
+                answer: Ok(sizes),
+                judge,
             }
         }
     }
@@ -79,11 +84,9 @@ pub fn install(judge: Judge, rule: Rule) -> InstallResult
 pub fn load(judge: Judge, file: &[u8]) -> InstallResult
     ensures { install_outcome result ≡ load_of judge file.now }
 {
-    let reading = rulefile::read(file);
-    let read = reading.answer;
-    match read {
-        Answer::Refused(number) => refuse_rule(judge, number),
-        Answer::Accepted => install(judge, reading.rule),
+    match rulefile::read(file) {
+        Err(refusal) => refuse_rule(judge, refusal),
+        Ok(rule) => install(judge, rule),
     }
 }
 
@@ -93,17 +96,19 @@ pub fn open(judge: Judge, places: usize) -> CallResult
 {
     let built = judge.built;
     if built.n == 0 {
-        return refuse_call(judge, 20);
+        return refuse_call(judge, Refusal::NoRule);
     }
     if places < 1 {
-        return refuse_call(judge, 10);
+        return refuse_call(judge, Refusal::PlaceCount);
     }
     if limits::PLACES < places {
-        return refuse_call(judge, 10);
+        return refuse_call(judge, Refusal::PlaceCount);
     }
-    let answer = Answer::Accepted;
     let judge = with_board(judge, board::empty_board(places as u8));
-    CallResult { answer, judge }
+    CallResult {
+        answer: Ok(()),
+        judge,
+    }
 }
 
 // Runs the text of a chunk, which is the chunk without its idle marks, and keeps its end sets,
@@ -114,18 +119,18 @@ pub fn deliver(mut judge: Judge, place: usize, revision: u32, chunk: &[u8]) -> D
     ensures { deliver_outcome result ≡ deliver_of judge place revision chunk.now }
 {
     if judge.board.places == 0 {
-        return refuse_delivery(judge, 21);
+        return refuse_delivery(judge, Refusal::NoBoard);
     }
     if board::places_of(judge.board.places) <= place {
-        return refuse_delivery(judge, 11);
+        return refuse_delivery(judge, Refusal::NoPlace);
     }
     if limits::CHUNK < chunk.len() {
-        return refuse_delivery(judge, 12);
+        return refuse_delivery(judge, Refusal::LongChunk);
     }
     let n = judge.built.n;
     let mask = chunks::run_mask(judge.built.delegates, n, judge.built.initials, place);
     let late = board::comes_late(&judge.board.revisions, place, revision);
-    let attempt = deliveries::run_delivery(
+    let ran = deliveries::run_delivery(
         &judge.built.sets,
         &judge.built.next,
         &judge.built.singles,
@@ -134,17 +139,19 @@ pub fn deliver(mut judge: Judge, place: usize, revision: u32, chunk: &[u8]) -> D
         late,
         chunk,
     );
-    let answer = attempt.answer;
-    if let DeliverAnswer::Refused(number) = answer {
-        return refuse_delivery(judge, number);
-    }
-    let runs = attempt.runs;
-    board::set_mark(&mut judge.board.filled, place, 1);
+    let runs = match ran {
+        Err(refusal) => return refuse_delivery(judge, refusal),
+        Ok(runs) => runs,
+    };
+    board::set_number(&mut judge.board.filled, place, 1);
     board::set_number(&mut judge.board.counts, place, runs.count);
     board::set_number(&mut judge.board.lengths, place, runs.bytes);
     board::set_revision(&mut judge.board.revisions, place, revision);
     board::set_row(&mut judge.board.ends, place, &runs.ends);
-    DeliverResult { answer, judge }
+    DeliverResult {
+        answer: Ok(runs.looked),
+        judge,
+    }
 }
 
 // Empties the place.
@@ -153,17 +160,19 @@ pub fn withdraw(judge: Judge, place: usize) -> CallResult
 {
     let board = judge.board;
     if board.places == 0 {
-        return refuse_call(judge, 21);
+        return refuse_call(judge, Refusal::NoBoard);
     }
     if board::places_of(board.places) <= place {
-        return refuse_call(judge, 11);
+        return refuse_call(judge, Refusal::NoPlace);
     }
     if board::is_empty(&board.filled, place) {
-        return refuse_call(judge, 23);
+        return refuse_call(judge, Refusal::EmptyPlace);
     }
-    let answer = Answer::Accepted;
     let judge = with_board(judge, board::clear(board, place));
-    CallResult { answer, judge }
+    CallResult {
+        answer: Ok(()),
+        judge,
+    }
 }
 
 // The verdict, and how many transitions it cost for each byte.

@@ -4,6 +4,8 @@
 --   known                         what a filled cell leads to has a number
 --   table_left, table_by_lem      what `add` leaves is the table
 --   one_whole                     with at most 512 keys that is the whole table
+use Rattle.std.proofs.Common as code
+use Rattle.std.proofs.Common.{Some, None}
 use mathlib.Core.Path.{◌≡◌, refl, sym, ap, ◌∙◌}
 use mathlib.Core.Logic.{⊎_elim}
 use mathlib.Core.Bool.{Bool, true, false, cond}
@@ -16,6 +18,7 @@ use lib.Dec.{ltb}
 use lib.ListN.{length, get_or, length-append, get_or-append}
 use lib.Seq.{get_or-append_seam}
 use borrow.Author.Tests.{lt-ltb, ltb-true, ltb-false}
+use Rattle.base.specs.Options.{option_of}
 use Rattle.base.proofs.Lists.{length_list_from, cell_of_lem, is_list_from}
 use Rattle.base.proofs.Options.{none-some}
 use Rattle.base.proofs.Tests.{by_test}
@@ -28,10 +31,8 @@ use Rattle.numbering.proofs.Reached.{covered}
 use Rattle.numbering.proofs.Table.{row_test_lem}
 use Rattle.keys.specs.declared.Kind.{Kind}
 use Rattle.keys.specs.declared.KeyTable.{KeyTable}
-use Rattle.keys.specs.declared.Numbering.{Numbering}
-use Rattle.keys.specs.declared.Numbering.TheVariants.{Whole, Over}
 use Rattle.keys.specs.Kinds.{walk_by}
-use Rattle.keys.specs.Tables.{count_means, Table, table_as, table_outcome, keys_by, cell_of, cells_of, cells_to, table_for, table_by}
+use Rattle.keys.specs.Tables.{Table, table_as, table_outcome, keys_by, cell_of, cells_of, cells_to, table_for, table_by}
 
 -- a key without a number has none either where another key is numbered
 other_key : (l : List ℕ) (m : ℕ) → length l ≤ index_of l m → length l < index_of (l ++ (suc m ∷ [])) m
@@ -113,7 +114,7 @@ module _ (kind : Kind) (ts us : List ℕ) (k : ℕ) where
       cells_whole (keys_up_to a (λ _. m) 1) most (λ c b row column. covered a (λ _. m) 1 most (c / 16) (c % 16) row column refl)
 
   table_whole : (f keys next : List ℕ) (count : ℕ) → count ≤ 512 → length f ≡ count → ArraysHold a 0 f (count * 16) keys next
-      → table_as (Whole count) keys next ≡ table_for a f
+      → table_as (Some count) keys next ≡ table_for a f
   table_whole f keys next count most n h =
       let cells : next ≡ cells_of a f =
       is_list_from next 8192 (λ c. cell_of a f (c / 16) (c % 16)) h.next_long
@@ -187,7 +188,7 @@ module _ (kind : Kind) (ts us : List ℕ) (k : ℕ) where
         ∙ rw (cut, least, full_at a f c b, lt-ltb (c / 16) (length f) row)
         (by_test (ltb c (i * 16 + s)) (λ t. rw t) (λ t. rw t)))
 
-    table_over : table_as Over keys' next' ≡ table_for a f
+    table_over : table_as None keys' next' ≡ table_for a f
     table_over =
         let n : next' ≡ cells_to a f = st.next_are ∙ rw (lt-ltb 512 (length after) long) next-is in
         let c : none ≡ limited f = limited_over f (omega (arith, long, begins_length begins)) in
@@ -195,16 +196,16 @@ module _ (kind : Kind) (ts us : List ℕ) (k : ℕ) where
         rw (n, ← c, cells)
 
   -- ---- the ways out
-  table_left : k ≤ 16 → (f : List ℕ) (r : Numbering) (keys next : List ℕ) → Expanded a 0 f (count_means r) keys next → table_as r keys next ≡ table_for a f
-  table_left columns f (Whole c) keys next x =
+  table_left : k ≤ 16 → (f : List ℕ) (r : code.Option ℕ) (keys next : List ℕ) → Expanded a 0 f (option_of r) keys next → table_as r keys next ≡ table_for a f
+  table_left columns f (Some c) keys next x =
       let n = whole_of f c x.grown.count in
       table_whole f keys next c (omega arith) (sym n.1) (rw n.1 (x.grown.held n.0))
-  table_left columns f Over keys next x =
+  table_left columns f None keys next x =
       let t = x.stopped (over_of f x.grown.count) in
       table_over t.l t.keys₀ t.next₀ t.i t.s t.few t.row t.symbol columns t.held t.last refl f t.goes_on
 
 -- ---- the keys from one key, with x symbols as the code has them
-pub table_by_lem : (kind : Kind) (ts us : List ℕ) (k m x : ℕ) → x ≡ min k 16 → (r : Numbering) (keys next : List ℕ) → Added (walk_by kind ts us x) 0 [] m (count_means r) keys next
+pub table_by_lem : (kind : Kind) (ts us : List ℕ) (k m x : ℕ) → x ≡ min k 16 → (r : code.Option ℕ) (keys next : List ℕ) → Added (walk_by kind ts us x) 0 [] m (option_of r) keys next
     → table_as r keys next ≡ table_by kind ts us k m
 unfolding table_by keys_up_to numbered index_of
 table_by_lem kind ts us k m x most r keys next h =
@@ -216,9 +217,9 @@ count_of_lem : (b : Bool) (n : ℕ) (o : Option ℕ) → o ≡ cond b none (some
 count_of_lem true n o is c e = none-some is e
 count_of_lem false n o is c e = (refl, let f : some c ≡ some n = sym e ∙ is in cc)
 
-pub most_keys : (kind : Kind) (ts us : List ℕ) (k m : ℕ) (t : KeyTable) → table_outcome t ≡ table_by kind ts us k m → (c : ℕ) → t.answer ≡ Whole c → c ≤ 512
+pub most_keys : (kind : Kind) (ts us : List ℕ) (k m : ℕ) (t : KeyTable) → table_outcome t ≡ table_by kind ts us k m → (c : ℕ) → t.count ≡ Some c → c ≤ 512
 unfolding table_by
 most_keys kind ts us k m t is c e =
     let n : ℕ = length (keys_by kind ts us k m) in
-    let x = count_of_lem (ltb 512 n) n (count_means t.answer) (ap (λ (y : Table). y.count) is) c (ap count_means e) in
+    let x = count_of_lem (ltb 512 n) n (option_of t.count) (ap (λ (y : Table). y.count) is) c (ap option_of e) in
     omega (arith, ltb-false 512 n x.0, x.1)

@@ -1,10 +1,8 @@
 -- What `number_by` and `number_keys` promise of any tables of targets, any k and any first key.
 --
---   count_means          what each case of the answer says: the number of keys, none where there
---                        are more than 512
---   held_by              how many keys a table with that answer holds
---   Table, table_as      the answer, with the arrays beside it; and what an answer and two arrays
---   table_outcome        of the code stand for, and its result
+--   Table, table_as      the number of keys, none where there are more than 512, with the arrays
+--   table_outcome        beside it; and what a number and two arrays of the code stand for, and its
+--                        result
 --   keys_by, keys_of      the keys that texts lead to from the key m, in number order
 --   cell_of a l i s       the number of the key that key i of the keys l leads to by the symbol s;
 --                        0 where there is no such key or symbol
@@ -14,36 +12,28 @@
 --   table_for a l        the number of the keys l, or that there are more than 512; the first 512 of
 --                        them, and their table
 --   table_by, table_of    the table of the keys
+use Rattle.std.specs.Prelude as code
 use Rattle.std.specs.Prelude.{cond, ◌&&◌, List, ℕ, ◌/◌, ◌%◌, min, ltb, length, get_or}
-use Rattle.std.proofs.Math.Option.{Option, none, some}
+use Rattle.std.proofs.Math.Option.{Option}
 use Rattle.limits.specs.Limits.{most_symbols, most_sets, table_cells}
+use Rattle.base.specs.Options.{option_of}
 use Rattle.base.specs.Lists.{list_from}
 use Rattle.numbering.specs.Numbering.{Walk, index_of, keys_up_to}
 use Rattle.numbering.specs.mirror.Arrays.{limited, key_cells}
 use Rattle.keys.specs.declared.Kind.{Kind}
 use Rattle.keys.specs.declared.KeyTable.{KeyTable}
-use Rattle.keys.specs.declared.Numbering.{Numbering}
-use Rattle.keys.specs.declared.Numbering.TheVariants.{Whole, Over}
 use Rattle.keys.specs.Kinds.{walk_by}
-
-abbrev pub count_means : Numbering → Option ℕ
-count_means (Whole count) = some count
-count_means Over = none
-
-abbrev pub held_by : Numbering → ℕ
-held_by (Whole count) = count
-held_by Over = most_sets
 
 pub record Table : Type 0 where
   pub count : Option ℕ
   pub keys : List ℕ
   pub next : List ℕ
 
-abbrev pub table_as : Numbering → List ℕ → List ℕ → Table
-table_as answer keys next = record { count = count_means answer; keys = keys; next = next }
+abbrev pub table_as : code.Option ℕ → List ℕ → List ℕ → Table
+table_as count keys next = record { count = option_of count; keys = keys; next = next }
 
 abbrev pub table_outcome : KeyTable → Table
-table_outcome t = table_as t.answer t.keys t.next
+table_outcome t = table_as t.count t.keys t.next
 
 -- (a rule has at most 16 symbols; a value that says more is taken to have 16)
 abbrev pub keys_by : Kind → List ℕ → List ℕ → ℕ → ℕ → List ℕ

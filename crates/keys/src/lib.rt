@@ -4,12 +4,13 @@
 
 ghost use Rattle.std.specs.Prelude.{◌≡◌, false, ℕ, ◌+◌, ◌*◌, ◌%◌, ◌^◌, ◌≤◌, ◌<◌, eqb, get_or, take};
 ghost use Rattle.base.specs.Conditions.{any_below};
+ghost use Rattle.base.specs.Options.{option_of};
 ghost use Rattle.limits.specs.Limits.{most_symbols, most_sets};
 ghost use Rattle.automaton.specs.Successor.{successor as successorOf};
 ghost use Rattle.numbering.specs.mirror.Arrays.{found_in, key_cells, Entered, Stepped, InRow, ArraysHold, Expanded, Added};
 ghost use Rattle.numbering.specs.Numbering.{close_from};
 ghost use Rattle.keys.specs.Kinds.{step_by, nothing, skips_by, free_by, walk_in};
-ghost use Rattle.keys.specs.Tables.{count_means, held_by, table_outcome, table_by, table_of};
+ghost use Rattle.keys.specs.Tables.{table_outcome, table_by, table_of};
 ghost use Rattle.keys.specs.mirror.Steps.{found_means, turn_means};
 
 // What a key stands for: a set of states, as a mask; a mapping, as a number of 64 bits; a pair of
@@ -25,32 +26,12 @@ pub enum Kind {
 #[derive(Clone, Copy)]
 pub struct KeyNumber(pub u16);
 
-// Where a search ends.
-#[derive(Clone, Copy)]
-pub enum Found {
-    At(KeyNumber),
-    Nothing,
-}
-
-// A key's number with the number of keys there are then, or the key would be the 513th.
-#[derive(Clone, Copy)]
-pub enum Turn {
-    As(KeyNumber, usize),
-    Full,
-}
-
-// The number of keys, or the 513th turned up.
-#[derive(Clone, Copy)]
-pub enum Numbering {
-    Whole(usize),
-    Over,
-}
-
-// The first 512 keys in number order and the table, zeros in every cell that is not in use, beside
-// the answer. Where the 513th key turned up, the table has the cells before that.
+// The number of keys, or none where the 513th turned up; the first 512 in number order and the
+// table, zeros in every cell that is not in use. Where the 513th turned up, the table has the cells
+// before that.
 #[derive(Clone, Copy)]
 pub struct KeyTable {
-    pub answer: Numbering,
+    pub count: Option<usize>,
     pub keys: [u64; limits::SETS],
     pub next: [u16; limits::CELLS],
 }
@@ -110,12 +91,10 @@ fn hits(keys: &[u64; limits::SETS], from: usize, half: u32) -> bool
     ensures { result ≡ any_below (λ j. eqb (get_or keys.now (from + j) 0 % 2 ^ 32) half) 32 }
 {
     let mut found = false;
-    let mut j: usize = 0;
-    while j < BLOCK {
+    for j in 0..BLOCK {
         if lower(keys[from + j]) == half {
             found = true;
         }
-        j += 1;
     }
     found
 }
@@ -137,37 +116,34 @@ fn passed(keys: &[u64; limits::SETS], most: usize, key: u64) -> usize
 }
 
 // The number of a key among the first count; a count above 512 is taken for 512.
-pub fn find(keys: &[u64; limits::SETS], count: usize, key: u64) -> Found
+pub fn find(keys: &[u64; limits::SETS], count: usize, key: u64) -> Option<KeyNumber>
     ensures { found_means result ≡ found_in (take count keys.now) key }
 {
-    let most = base::at_most(count, limits::SETS);
-    let mut i = passed(keys, most, key);
+    let most = count.min(limits::SETS);
+    let from = passed(keys, most, key);
     let cells: &[u64] = keys;
-    let found = loop {
-        if i == most {
-            return Found::Nothing;
-        }
+    for i in from..most {
         if cells[i] == key {
-            break i;
+            return Some(KeyNumber(i as u16));
         }
-        i += 1;
-    };
-    Found::At(KeyNumber(found as u16))
+    }
+    None
 }
 
-// A key keeps the number it has among the first count, else it takes the next.
-fn number(keys: &mut [u64; limits::SETS], count: usize, key: u64) -> Turn
+// A key keeps the number it has among the first count, else it takes the next: its number, and how
+// many keys there are then; none where it would be the 513th.
+fn number(keys: &mut [u64; limits::SETS], count: usize, key: u64) -> Option<(KeyNumber, usize)>
     requires { (count ≤ most_sets) × (keys.old ≡ key_cells (take count keys.old)) }
     ensures { Entered nothing (take count keys.old) key (turn_means result) keys.new }
 {
     match find(keys, count, key) {
-        Found::At(number) => Turn::As(number, count),
-        Found::Nothing => {
+        Some(number) => Some((number, count)),
+        None => {
             if count < limits::SETS {
                 keys[count] = key;
-                Turn::As(KeyNumber(count as u16), count + 1)
+                Some((KeyNumber(count as u16), count + 1))
             } else {
-                Turn::Full
+                None
             }
         }
     }
@@ -183,7 +159,8 @@ fn left_out(omit: bool, key: u64) -> bool
     false
 }
 
-// Key i is expanded by one symbol. The cell of a key that is left out stays as it is.
+// Key i is expanded by one symbol. The cell of a key that is left out stays as it is. The number of
+// keys there are then, or none where the 513th turned up.
 fn step(
     targets: &[u32; limits::TARGETS],
     others: &[u32; limits::TARGETS],
@@ -194,27 +171,23 @@ fn step(
     count: usize,
     i: KeyNumber,
     symbol: u8,
-) -> Numbering
+) -> Option<usize>
     requires count_le_most_sets { (count ≤ most_sets) × (keys.old ≡ key_cells (take count keys.old)) × (i.0 < count) }
     requires symbol_lt_most_symbols { skips_by omit (step_by kind targets.now others.now (get_or keys.old i.0 0) symbol) ≡ false → symbol < most_symbols }
-    ensures { Stepped (step_by kind targets.now others.now) (skips_by omit) (take count keys.old) i.0 symbol (count_means result) keys.new next.old next.new }
+    ensures { Stepped (step_by kind targets.now others.now) (skips_by omit) (take count keys.old) i.0 symbol (option_of result) keys.new next.old next.new }
 {
     let row = i.0 as usize;
     let key = step_key(targets, others, kind, keys[row], symbol);
     if left_out(omit, key) {
-        return Numbering::Whole(count);
+        return Some(count);
     }
-    match number(keys, count, key) {
-        Turn::As(number, after) => {
-            next[row * limits::SYMBOLS + symbol as usize] = number.0;
-            Numbering::Whole(after)
-        }
-        Turn::Full => Numbering::Over,
-    }
+    let (number, after) = number(keys, count, key)?;
+    next[row * limits::SYMBOLS + symbol as usize] = number.0;
+    Some(after)
 }
 
 // The keys from number first on are expanded in number order, those that turn up on the way too;
-// the key 0 is left out where omit says so.
+// the key 0 is left out where omit says so. The number of keys, or none where the 513th turned up.
 fn expand(
     targets: &[u32; limits::TARGETS],
     others: &[u32; limits::TARGETS],
@@ -225,19 +198,19 @@ fn expand(
     next: &mut [u16; limits::CELLS],
     first: KeyNumber,
     from: usize,
-) -> Numbering
+) -> Option<usize>
     requires from_le_most_sets { (from ≤ most_sets) × (first.0 ≤ from) × ArraysHold (walk_in kind omit targets.now others.now k) (free_by omit) (take from keys.old) (first.0 * most_symbols) keys.old next.old }
     requires in_row { InRow (walk_in kind omit targets.now others.now k) }
-    ensures { Expanded (walk_in kind omit targets.now others.now k) (free_by omit) (close_from (walk_in kind omit targets.now others.now k) most_sets first.0 (take from keys.old)) (count_means result) keys.new next.new }
+    ensures { Expanded (walk_in kind omit targets.now others.now k) (free_by omit) (close_from (walk_in kind omit targets.now others.now k) most_sets first.0 (take from keys.old)) (option_of result) keys.new next.new }
 {
     let mut count = from;
     let mut i = first.0 as usize;
-    let answer = 'expand: loop {
+    'expand: loop {
         if i == count {
-            break 'expand Numbering::Whole(count);
+            return Some(count);
         }
         for symbol in 0..k {
-            match step(
+            count = step(
                 targets,
                 others,
                 kind,
@@ -247,22 +220,14 @@ fn expand(
                 count,
                 KeyNumber(i as u16),
                 symbol,
-            ) {
-                Numbering::Whole(after) => {
-                    count = after;
-                }
-                Numbering::Over => {
-                    break 'expand Numbering::Over;
-                }
-            }
+            )?;
         }
         i += 1;
-    };
-    answer
+    }
 }
 
 // A key that is not left out is numbered, and the keys that are not yet expanded, which are those
-// from number count on, are.
+// from number count on, are. The number of keys, or none where the 513th turned up.
 pub fn add(
     targets: &[u32; limits::TARGETS],
     others: &[u32; limits::TARGETS],
@@ -273,25 +238,23 @@ pub fn add(
     next: &mut [u16; limits::CELLS],
     count: usize,
     key: u64,
-) -> Numbering
+) -> Option<usize>
     requires count_le_most_sets { (count ≤ most_sets) × (skips_by omit key ≡ false) × ArraysHold (walk_in kind omit targets.now others.now k) (free_by omit) (take count keys.old) (count * most_symbols) keys.old next.old }
     requires in_row { InRow (walk_in kind omit targets.now others.now k) }
-    ensures { Added (walk_in kind omit targets.now others.now k) (free_by omit) (take count keys.old) key (count_means result) keys.new next.new }
+    ensures { Added (walk_in kind omit targets.now others.now k) (free_by omit) (take count keys.old) key (option_of result) keys.new next.new }
 {
-    match number(keys, count, key) {
-        Turn::As(_, after) => expand(
-            targets,
-            others,
-            kind,
-            omit,
-            k,
-            keys,
-            next,
-            KeyNumber(count as u16),
-            after,
-        ),
-        Turn::Full => Numbering::Over,
-    }
+    let (_, after) = number(keys, count, key)?;
+    expand(
+        targets,
+        others,
+        kind,
+        omit,
+        k,
+        keys,
+        next,
+        KeyNumber(count as u16),
+        after,
+    )
 }
 
 // The keys that texts of symbols below k lead to from the key start, in the order in which they are
@@ -308,11 +271,11 @@ pub fn number_by(
 {
     let mut keys = [0u64; limits::SETS];
     let mut next = [0u16; limits::CELLS];
-    let symbols = base::at_most_u8(k, limits::MOST_SYMBOLS);
-    let answer = add(
+    let symbols = k.min(limits::MOST_SYMBOLS);
+    let count = add(
         targets, others, kind, false, symbols, &mut keys, &mut next, 0, start,
     );
-    KeyTable { answer, keys, next }
+    KeyTable { count, keys, next }
 }
 
 // Those where one table is both.
@@ -320,14 +283,4 @@ pub fn number_keys(targets: &[u32; limits::TARGETS], kind: Kind, k: u8, start: u
     ensures { table_outcome result ≡ table_of kind targets.now k start }
 {
     number_by(targets, targets, kind, k, start)
-}
-
-// How many keys a table with this answer holds: all of them, or the first 512.
-pub fn held(answer: Numbering) -> usize
-    ensures { result ≡ held_by answer }
-{
-    match answer {
-        Numbering::Whole(count) => count,
-        Numbering::Over => limits::SETS,
-    }
 }

@@ -41,10 +41,8 @@ pub fn fill_offsets(next: &[u16; limits::CELLS], t: &mut [u16; OFFSETS])
     requires { t.old ≡ replicate offset_cells empty_row }
     ensures { t.new ≡ offsets_of next.now }
 {
-    let mut c: usize = 0;
-    while c < limits::CELLS {
+    for c in 0..limits::CELLS {
         t[c] = row_of(next[c]);
-        c += 1;
     }
 }
 
@@ -67,7 +65,8 @@ fn span(row: usize, n: usize) -> usize
 }
 
 // Eight runs over the bytes, as far as the first of them looks a successor up; answers how far.
-// The first alone is tested at each byte.
+// The first alone is tested at each byte. Not a `for`: the end moves here when the first dies, so
+// that a byte costs one test.
 fn lead(t: &[u16], part: &[u8], lane: &mut [usize]) -> usize
     requires { RowTable t.now × Rows lane.old × (length lane.old ≡ lane_count) }
     ensures value { result ≡ row_looked t.now part.now (get_or lane.old 0 0) }
@@ -115,12 +114,10 @@ fn living(lane: &[usize]) -> usize
     requires { length lane.now ≡ lane_count }
     ensures { Living lane.now result }
 {
-    let mut k: usize = 1;
-    while k < LANES {
+    for k in 1..LANES {
         if lane[k] < EMPTY_ROW {
             return k;
         }
-        k += 1;
     }
     LANES
 }

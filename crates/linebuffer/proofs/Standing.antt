@@ -16,8 +16,9 @@ use native.Mathlib.Omega.{arith}
 use lib.ListN.{length, take, drop}
 use Rattle.text.specs.Writing.{Wrote}
 use Rattle.answers.specs.Answers.{malformed_text}
-use Rattle.fields.specs.declared.Bytes.{Bytes}
-use Rattle.fields.specs.declared.Bytes.TheVariants.{Put, Malformed}
+use Rattle.std.proofs.Common.{Some, None}
+use Rattle.std.proofs.Common as code
+use Rattle.base.specs.Options.{option_of}
 use Rattle.fields.specs.Bytes.{parse_bytes, Took}
 use Rattle.fields.proofs.Taking.{carries, not_bytes}
 use Rattle.calls.specs.declared.Judge.{Judge}
@@ -75,25 +76,25 @@ pub found_text : (j : Judge) (f : Finding) → f ≡ diagnosis_of j → (before 
     → Wrote before 0 (finding_text f) after end → Wrote before 0 (finding_text (diagnosis_of j)) after end
 found_text j f is before after end wrote = subst (λ (g : Finding). Wrote before 0 (finding_text g) after end) is wrote
 
-module _ (field before after : List ℕ) (x : Bytes) (took : Took field before x after) (j : Judge) (p : ℕ) where
+module _ (field before after : List ℕ) (x : code.Option ℕ) (took : Took field before (option_of x) after) (j : Judge) (p : ℕ) where
   abbrev field_means : LineMeaning
   field_means = meaning_by (locate_by (some p) (parse_bytes field)) malformed
 
-  module _ (e : x ≡ Malformed) where
+  module _ (e : x ≡ None) where
     pub malformed_state : list_of j true ≡ (line_told j field_means).state
-    malformed_state = rw (not_bytes field before after x took e)
+    malformed_state = rw (not_bytes field before after (option_of x) took (ap option_of e))
 
     pub malformed_text_lem : (out last : List ℕ) (end : ℕ) → Wrote out 0 malformed_text last end → Wrote out 0 (line_told j field_means).text last end
-    malformed_text_lem out last end wrote = rw (not_bytes field before after x took e) wrote
+    malformed_text_lem out last end wrote = rw (not_bytes field before after (option_of x) took (ap option_of e)) wrote
 
-  module _ (room : 65537 ≤ length before) (n : ℕ) (e : x ≡ Put n) where
+  module _ (room : 65537 ≤ length before) (n : ℕ) (e : x ≡ Some n) where
     pub put_state : list_of j false ≡ (line_told j field_means).state
-    put_state = rw (carries field before after x took n e).said
+    put_state = rw (carries field before after (option_of x) took n (ap option_of e)).said
 
     pub put_text : (s : Spot) → s ≡ spot_of j p (take n after) → (out last : List ℕ) (end : ℕ)
         → Wrote out 0 (spot_text s) last end → Wrote out 0 (line_told j field_means).text last end
     put_text s is out last end wrote =
-        let k = carries field before after x took n e in
+        let k = carries field before after (option_of x) took n (ap option_of e) in
         let whole = is ∙ ap (spot_of j p) k.is ∙ spots_clip j p k.bytes (length before) (omega arith) in
         rw k.said (subst (λ (u : Spot). Wrote out 0 (spot_text u) last end) whole wrote)
 

@@ -19,7 +19,6 @@ ghost use Rattle.linebuffer.specs.Meanings.{line_told, HeldAs};
 
 use calls::Judge;
 use calltext::{Line, LineAnswer};
-use fields::Bytes;
 use longlines::Held;
 use questions::{Query, TextLine};
 
@@ -57,9 +56,10 @@ pub fn read_line(buffer: &[u8], held: Held) -> ReadLine
         let line = questions::parse(&buffer[..length]);
         return ReadLine { line, length };
     }
-    let parsed = Line::Malformed;
-    let line = TextLine::Runs(parsed);
-    ReadLine { line, length }
+    ReadLine {
+        line: TextLine::Runs(Line::Malformed),
+        length,
+    }
 }
 
 // The answer to a line that asks for the verdict: the judge stays where it is.
@@ -68,8 +68,7 @@ pub fn ask_verdict(judge: Judge, out: &mut [u8]) -> usize
     ensures { Wrote out.old 0 (response_text (replied (judged (report_of judge)))) out.new result }
 {
     let said = judge::ask_verdict(judge);
-    let answer = LineAnswer::Verdict(said);
-    calltext::put_answer(out, answer)
+    calltext::put_answer(out, LineAnswer::Verdict(said))
 }
 
 // The answer to a line that asks where the trace is lost.
@@ -90,19 +89,16 @@ fn ask_location(judge: Judge, place: u64, field: &[u8], bytes: &mut [u8], out: &
     ensures text { Wrote out.old 0 (line_told judge (meaning_by (locate_by (some place) (parse_bytes field.now)) malformed)).text out.new result.written }
     ensures scratch { Scratch bytes.old bytes.new }
 {
-    let read = fields::read_bytes(field, bytes);
-    match read {
-        Bytes::Malformed => {
-            let ended = true;
-            let written = answers::put_malformed(out, 0);
-            Said { ended, written }
-        }
-        Bytes::Put(n) => {
-            let located = locating::locate(judge, place as usize, &bytes[..n]);
-            let ended = false;
-            let written = questions::put_located(out, located);
-            Said { ended, written }
-        }
+    let Some(n) = fields::read_bytes(field, bytes) else {
+        return Said {
+            ended: true,
+            written: answers::put_malformed(out, 0),
+        };
+    };
+    let located = locating::locate(judge, place as usize, &bytes[..n]);
+    Said {
+        ended: false,
+        written: questions::put_located(out, located),
     }
 }
 

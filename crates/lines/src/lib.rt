@@ -9,14 +9,12 @@ ghost use Rattle.lines.specs.Splitting.{up_to, begins};
 pub fn find(text: &[u8], from: usize, c: u8) -> usize
     ensures { result ≡ from + length (up_to c (drop from text.now)) }
 {
-    let mut i = from;
-    while i < text.len() {
+    for i in from..text.len() {
         if text[i] == c {
             return i;
         }
-        i += 1;
     }
-    i
+    from.max(text.len())
 }
 
 // Whether the text begins with the head.
@@ -26,12 +24,10 @@ pub fn begins_with(text: &[u8], head: &[u8]) -> bool
     if text.len() < head.len() {
         return false;
     }
-    let mut i: usize = 0;
-    while i < head.len() {
-        if text[i] != head[i] {
+    for (i, byte) in head.iter().enumerate() {
+        if text[i] != *byte {
             return false;
         }
-        i += 1;
     }
     true
 }

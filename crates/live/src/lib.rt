@@ -13,12 +13,10 @@ fn leads(targets: &[u32; limits::TARGETS], set: u32, q: StateNumber) -> bool
     ensures { result ≡ leadsTo targets.now set q.0 }
 {
     let row = q.0 as usize;
-    let mut s: usize = 0;
-    while s < limits::SYMBOLS {
+    for s in 0..limits::SYMBOLS {
         if masks::meets(targets[row * limits::SYMBOLS + s], set) {
             return true;
         }
-        s += 1;
     }
     false
 }
@@ -28,12 +26,10 @@ fn back_to(targets: &[u32; limits::TARGETS], set: u32) -> u32
     ensures { result ≡ back_to targets.now set }
 {
     let mut found: u32 = 0;
-    let mut q: u8 = 0;
-    while q < limits::MOST_STATES {
+    for q in 0..limits::MOST_STATES {
         if leads(targets, set, StateNumber(q)) {
             found = masks::union(found, masks::singleton(StateNumber(q)));
         }
-        q += 1;
     }
     masks::union(set, found)
 }
@@ -44,14 +40,12 @@ pub fn live_states(targets: &[u32; limits::TARGETS], finals: u32) -> u32
     ensures { result ≡ within targets.now finals most_states }
 {
     let mut live = finals;
-    let mut i: usize = 0;
-    while i < limits::STATES {
+    for _round in 0..limits::STATES {
         let more = back_to(targets, live);
         if more == live {
             return live;
         }
         live = more;
-        i += 1;
     }
     live
 }

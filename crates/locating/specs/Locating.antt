@@ -6,7 +6,8 @@
 --     refused_for x          refused with the number x
 --     stuck_after b          nothing can follow the first b bytes, and something can follow fewer
 --     nowhere                something can follow all of them
---   located_means            what each case of the code's answer says
+--   found_means              what a number of bytes says, or that there is none
+--   located_means            what the code's answer says
 --   some_left ends           some end set is not empty
 --   found_by x               what the runs x over a text say: where none is left, the bytes for which
 --                            they looked a successor up
@@ -17,9 +18,12 @@
 --   in_chunk w s             the same in bytes of the chunk w, idle marks counted
 --   locate_conditions        21, 11, 12, 13, 23
 --   spot_of j p w             what is answered on the state j for the chunk w at place p
-use Rattle.std.specs.Prelude.{Bool, cond, List, [], ◌∷◌, ℕ, min, leb, ltb, length, get_or}
+use Rattle.std.specs.Prelude.{Result, Ok, Err, Some, None, Bool, cond, List, [], ◌∷◌, ℕ, min, leb, ltb, length, get_or}
+use Rattle.std.specs.Prelude as code
 use Rattle.std.proofs.Math.Option.{Option, none, some}
 use Rattle.limits.specs.Limits.{most_states, longest_chunk}
+use Rattle.base.specs.declared.Refusal.{Refusal}
+use Rattle.base.specs.Answers.{refusal_number}
 use Rattle.base.specs.Conditions.{Condition, on, first_of, any_below}
 use Rattle.marks.specs.Marks.{text_of}
 use Rattle.build.specs.declared.Built.{Built}
@@ -30,8 +34,6 @@ use Rattle.board.specs.Boards.{places_of, is_empty}
 use Rattle.joins.specs.Joining.{join_up_to}
 use Rattle.calls.specs.declared.Judge.{Judge}
 use Rattle.calls.specs.mirror.Steps.{lacks_board}
-use Rattle.locating.specs.declared.Located.{Located}
-use Rattle.locating.specs.declared.Located.TheVariants.{Refused, After, Nowhere}
 use Rattle.locating.specs.Positions.{position_of}
 use Rattle.locating.specs.mirror.Pruning.{live_set, pruned}
 
@@ -40,10 +42,13 @@ pub data Spot : Type 0 where
   stuck_after : ℕ → Spot
   nowhere : Spot
 
-abbrev pub located_means : Located → Spot
-located_means (Refused number) = refused_for number
-located_means (After bytes) = stuck_after bytes
-located_means Nowhere = nowhere
+abbrev pub found_means : code.Option ℕ → Spot
+found_means (Some bytes) = stuck_after bytes
+found_means None = nowhere
+
+abbrev pub located_means : Result (code.Option ℕ) Refusal → Spot
+located_means (Ok found) = found_means found
+located_means (Err refusal) = refused_for (refusal_number refusal)
 
 abbrev pub some_left : List ℕ → Bool
 some_left ends = any_below (λ q. ltb 0 (get_or ends q 0)) most_states

@@ -9,20 +9,12 @@ ghost use Rattle.marks.specs.Marks.{text_of};
 ghost use Rattle.chunks.specs.mirror.Walks.{mask_of, step_of, walk_end, walk_looked, runs_of};
 ghost use Rattle.locating.specs.Positions.{position_of};
 ghost use Rattle.locating.specs.mirror.Pruning.{live_set, kept_cell, pruned};
-ghost use Rattle.locating.specs.Locating.{located_means, some_left, found_by, text_spot, in_chunk, spot_of};
+ghost use Rattle.locating.specs.Locating.{found_means, located_means, some_left, found_by, text_spot, in_chunk, spot_of};
 
+use base::Refusal;
 use calls::Judge;
 use masks::StateNumber;
 use subsets::SetNumber;
-
-// The least number of bytes of the chunk, idle marks counted, after which nothing can follow, or that
-// there is none.
-#[derive(Clone, Copy)]
-pub enum Located {
-    Refused(u8),
-    After(u32),
-    Nowhere,
-}
 
 // So many steps of runs take less time than the pruned table of 512 sets.
 const FEW_STEPS: usize = 4096;
@@ -31,15 +23,13 @@ const FEW_STEPS: usize = 4096;
 fn live_mask(delegates: [u8; limits::STATES], n: u8) -> u32
     ensures { result ≡ live_set delegates (min n most_states) }
 {
-    let most = base::at_most_u8(n, limits::MOST_STATES);
+    let most = n.min(limits::MOST_STATES);
     let mut live: u32 = 0;
-    let mut q: u8 = 0;
-    while q < most {
+    for q in 0..most {
         let i = q as usize;
         if delegates[i] < limits::NO_DELEGATE {
             live = masks::union(live, masks::singleton(StateNumber(q)));
         }
-        q += 1;
     }
     live
 }
@@ -59,12 +49,7 @@ fn kept_cell(sets: &[u32; limits::SETS], live: u32, cell: u16) -> u16
 fn cells_of(count: u16) -> usize
     ensures { result ≡ min (count * most_symbols) table_cells }
 {
-    let cells = (count as usize) * limits::SYMBOLS;
-    if cells < limits::CELLS {
-        cells
-    } else {
-        limits::CELLS
-    }
+    (count as usize * limits::SYMBOLS).min(limits::CELLS)
 }
 
 // The next-set table in which a set without a live state is the empty set, so that a run dies where
@@ -79,10 +64,8 @@ fn prune<'a>(
 {
     let end = cells_of(count);
     let mut out = [limits::EMPTY; limits::CELLS];
-    let mut c: usize = 0;
-    while c < end {
+    for c in 0..end {
         out[c] = kept_cell(sets, live, next[c]);
-        c += 1;
     }
     out
 }
@@ -91,12 +74,10 @@ fn prune<'a>(
 fn some_left(ends: [u32; limits::STATES]) -> bool
     ensures { result ≡ some_left ends }
 {
-    let mut q: usize = 0;
-    while q < limits::STATES {
-        if 0 < ends[q] {
+    for end in ends {
+        if 0 < end {
             return true;
         }
-        q += 1;
     }
     false
 }
@@ -145,32 +126,24 @@ fn run_kept<'a>(
     if limits::EMPTY <= set {
         return Run { mask: 0, looked: 0 };
     }
-    let mut i: usize = 0;
-    while i < text.len() {
-        let after = kept_step(sets, next, live, count, SetNumber(set), text[i]);
+    for (i, byte) in text.iter().enumerate() {
+        let after = kept_step(sets, next, live, count, SetNumber(set), *byte);
         set = after.0;
-        i += 1;
         if limits::EMPTY <= set {
             return Run {
                 mask: 0,
-                looked: i as u32,
+                looked: (i + 1) as u32,
             };
         }
     }
     Run {
         mask: chunks::mask_of(sets, SetNumber(set)),
-        looked: i as u32,
+        looked: text.len() as u32,
     }
 }
 
-// The greater of two numbers.
-fn greater(a: u32, b: u32) -> u32
-    ensures { result ≡ max a b }
-{
-    if a < b { b } else { a }
-}
-
-// What the runs over the text say, one after the other.
+// What the runs over the text say, one after the other: after how many bytes of it the last of them
+// dies, if all do.
 fn find_by_run<'a>(
     sets: &'a [u32; limits::SETS],
     next: &'a [u16; limits::CELLS],
@@ -179,26 +152,24 @@ fn find_by_run<'a>(
     live: u32,
     count: u16,
     text: &[u8],
-) -> Located
+) -> Option<u32>
     requires { length text.now ≤ longest_chunk }
-    ensures { located_means result ≡ found_by (runs_of sets.now (pruned sets.now next.now live count) singles.now starts text.now) }
+    ensures { found_means result ≡ found_by (runs_of sets.now (pruned sets.now next.now live count) singles.now starts text.now) }
 {
     let mut looked: u32 = 0;
-    let mut q: usize = 0;
-    while q < limits::STATES {
+    for (q, single) in singles.iter().enumerate() {
         if masks::member(starts, StateNumber(q as u8)) {
-            let run = run_kept(sets, next, live, count, SetNumber(singles[q]), text);
+            let run = run_kept(sets, next, live, count, SetNumber(*single), text);
             if 0 < run.mask {
-                return Located::Nowhere;
+                return None;
             }
-            looked = greater(looked, run.looked);
+            looked = looked.max(run.looked);
         }
-        q += 1;
     }
-    Located::After(looked)
+    Some(looked)
 }
 
-// What the runs over the text say, all together, by the pruned table.
+// The same of all runs together, by the pruned table.
 fn find_by_table<'a>(
     sets: &'a [u32; limits::SETS],
     next: &'a [u16; limits::CELLS],
@@ -207,17 +178,17 @@ fn find_by_table<'a>(
     live: u32,
     count: u16,
     text: &[u8],
-) -> Located
+) -> Option<u32>
     requires { length text.now ≤ longest_chunk }
-    ensures { located_means result ≡ found_by (runs_of sets.now (pruned sets.now next.now live count) singles.now starts text.now) }
+    ensures { found_means result ≡ found_by (runs_of sets.now (pruned sets.now next.now live count) singles.now starts text.now) }
 {
     let cut = prune(sets, next, live, count);
     let runs = chunks::run_chunk(sets, &cut, singles, starts, text);
     let ends = runs.ends;
     if some_left(ends) {
-        return Located::Nowhere;
+        return None;
     }
-    Located::After(runs.looked)
+    Some(runs.looked)
 }
 
 // How many states the set has.
@@ -242,20 +213,20 @@ fn locate_text<'a>(
     k: u8,
     gap: bool,
     text: &[u8],
-) -> Located
+) -> Result<Option<u32>, Refusal>
     requires { length text.now ≤ longest_chunk }
     ensures { located_means result ≡ text_spot sets.now (pruned sets.now next.now live count) singles.now starts k gap text.now }
 {
     if chunks::has_foreign(text, k) {
-        return Located::Refused(13);
+        return Err(Refusal::ForeignByte);
     }
     if gap {
-        return Located::Refused(23);
+        return Err(Refusal::EmptyPlace);
     }
     if text.len() <= few_bytes(starts) {
-        return find_by_run(sets, next, singles, starts, live, count, text);
+        return Ok(find_by_run(sets, next, singles, starts, live, count, text));
     }
-    find_by_table(sets, next, singles, starts, live, count, text)
+    Ok(find_by_table(sets, next, singles, starts, live, count, text))
 }
 
 // How many bytes of the chunk, idle marks counted, hold so many bytes of its text.
@@ -264,29 +235,24 @@ fn position(chunk: &[u8], bytes: u32) -> u32
     ensures { result ≡ position_of chunk.now bytes }
 {
     let mut left = bytes;
-    let mut i: usize = 0;
-    while i < chunk.len() {
+    for (i, byte) in chunk.iter().enumerate() {
         if left == 0 {
             return i as u32;
         }
-        if chunk[i] != marks::IDLE {
+        if *byte != marks::IDLE {
             left -= 1;
         }
-        i += 1;
     }
-    i as u32
+    chunk.len() as u32
 }
 
 // What was found in the text, in bytes of the chunk.
-fn in_chunk(found: Located, chunk: &[u8]) -> Located
+fn in_chunk(found: Option<u32>, chunk: &[u8]) -> Option<u32>
     requires { length chunk.now ≤ longest_chunk }
-    ensures { located_means result ≡ in_chunk chunk.now (located_means found) }
+    ensures { found_means result ≡ in_chunk chunk.now (found_means found) }
 {
-    match found {
-        Located::Refused(number) => Located::Refused(number),
-        Located::After(bytes) => Located::After(position(chunk, bytes)),
-        Located::Nowhere => Located::Nowhere,
-    }
+    let bytes = found?;
+    Some(position(chunk, bytes))
 }
 
 // A chunk with idle marks: its text is packed once.
@@ -300,7 +266,7 @@ fn locate_marked<'a>(
     k: u8,
     gap: bool,
     chunk: &[u8],
-) -> Located
+) -> Result<Option<u32>, Refusal>
     requires { length chunk.now ≤ longest_chunk }
     ensures { located_means result ≡ in_chunk chunk.now (text_spot sets.now (pruned sets.now next.now live count) singles.now starts k gap (text_of chunk.now)) }
 {
@@ -316,8 +282,8 @@ fn locate_marked<'a>(
         k,
         gap,
         &buffer[..len],
-    );
-    in_chunk(found, chunk)
+    )?;
+    Ok(in_chunk(found, chunk))
 }
 
 // Any chunk: one without marks is its own text.
@@ -331,7 +297,7 @@ fn locate_chunk<'a>(
     k: u8,
     gap: bool,
     chunk: &[u8],
-) -> Located
+) -> Result<Option<u32>, Refusal>
     requires { length chunk.now ≤ longest_chunk }
     ensures { located_means result ≡ in_chunk chunk.now (text_spot sets.now (pruned sets.now next.now live count) singles.now starts k gap (text_of chunk.now)) }
 {
@@ -346,28 +312,27 @@ fn has_gap(filled: &[u8; limits::PLACES], places: usize) -> bool
     requires { places ≤ most_places }
     ensures { result ≡ any_below (λ p. eqb (get_or filled.now p 0) 0) places }
 {
-    let mut p: usize = 0;
-    while p < places {
+    for p in 0..places {
         if filled[p] == 0 {
             return true;
         }
-        p += 1;
     }
     false
 }
 
-// After how many bytes of the chunk at the place the trace is lost.
-pub fn locate(judge: Judge, place: usize, chunk: &[u8]) -> Located
+// After how many bytes of the chunk at the place the trace is lost: the least number of them, idle
+// marks counted, after which nothing can follow, if there is one.
+pub fn locate(judge: Judge, place: usize, chunk: &[u8]) -> Result<Option<u32>, Refusal>
     ensures { located_means result ≡ spot_of judge place chunk.now }
 {
     if judge.board.places == 0 {
-        return Located::Refused(21);
+        return Err(Refusal::NoBoard);
     }
     if board::places_of(judge.board.places) <= place {
-        return Located::Refused(11);
+        return Err(Refusal::NoPlace);
     }
     if limits::CHUNK < chunk.len() {
-        return Located::Refused(12);
+        return Err(Refusal::LongChunk);
     }
     let gap = has_gap(&judge.board.filled, place);
     let delegates = judge.built.delegates;

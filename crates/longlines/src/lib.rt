@@ -59,8 +59,8 @@ pub fn hold(buffer: &mut [u8], held: Held, piece: &[u8]) -> Held
     ensures value { result ≡ held_after buffer.old held piece.now }
     ensures buffer { buffer.new ≡ buffer_after buffer.old held piece.now }
 {
-    let at = base::at_most(held.length, buffer.len());
-    let fits = base::at_most(piece.len(), buffer.len() - at);
+    let at = held.length.min(buffer.len());
+    let fits = piece.len().min(buffer.len() - at);
     let length = text::put_bytes(buffer, at, &piece[..fits]);
     let hex = hex_with(held.hex, &piece[fits..]);
     let odd = odd_with(held.odd, piece.len() - fits);
@@ -87,7 +87,7 @@ pub fn look(buffer: &[u8], held: Held) -> Seen
     ensures value { result ≡ seen_of buffer.now held }
     ensures within { (result.length ≤ length buffer.now) × (result.length ≡ length (take result.length buffer.now)) }
 {
-    let kept = base::at_most(held.length, buffer.len());
+    let kept = held.length.min(buffer.len());
     let length = stands(kept, held.odd);
     let hex = hex_with(held.hex, &buffer[length..kept]);
     Seen { length, hex }

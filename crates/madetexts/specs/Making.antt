@@ -6,12 +6,12 @@
 --   made_number k seed        the number of the first that holds
 --   buffer_after k seed b     the buffer b after the call
 --   Makes                     what `make_text` promises
-use Rattle.std.specs.Prelude.{◌≡◌, List, [], ◌∷◌, ℕ, eqb, length}
+use Rattle.std.specs.Prelude.{Result, ◌≡◌, List, [], ◌∷◌, ℕ, eqb, length}
 use Rattle.std.proofs.Math.Option.{Option, none, some}
-use Rattle.base.specs.Answers.{answer_number}
+use Rattle.base.specs.Answers.{result_number}
 use Rattle.base.specs.Conditions.{Condition, on, first_of, outside}
 use Rattle.limits.specs.Limits.{most_symbols}
-use Rattle.base.specs.declared.Answer.{Answer}
+use Rattle.base.specs.declared.Refusal.{Refusal}
 use Rattle.madetexts.specs.Values.{made_text}
 
 abbrev pub made_conditions : ℕ → ℕ → List Condition
@@ -27,6 +27,6 @@ buffer_by (some number) k seed buffer = buffer
 abbrev pub buffer_after : ℕ → ℕ → List ℕ → List ℕ
 buffer_after k seed buffer = buffer_by (made_number k seed) k seed buffer
 
-pub record Makes (k seed : ℕ) (before : List ℕ) (r : Answer) (after : List ℕ) : Type 0 where
-  pub answer : answer_number r ≡ made_number k seed
+pub record Makes (k seed : ℕ) (before : List ℕ) (r : Result (Unit {0}) Refusal) (after : List ℕ) : Type 0 where
+  pub answer : result_number r ≡ made_number k seed
   pub buffer : after ≡ buffer_after k seed before

@@ -5,7 +5,7 @@ ghost use Rattle.std.specs.Prelude.{◌≡◌, ◌≤◌, length};
 ghost use Rattle.madetexts.specs.Values.{next_value, made_text};
 ghost use Rattle.madetexts.specs.Making.{Makes};
 
-use base::Answer;
+use base::Refusal;
 
 // The value after x of Marsaglia's 64-bit xorshift.
 fn next_value(x: u64) -> u64
@@ -22,29 +22,27 @@ fn fill(k: usize, seed: u64, text: &mut [u8])
     ensures { text.new ≡ made_text k seed (length text.old) }
 {
     let mut x = seed;
-    let mut i: usize = 0;
-    while i < text.len() {
+    for byte in text.iter_mut() {
         let next = next_value(x);
-        text[i] = (next % k as u64) as u8;
+        *byte = (next % k as u64) as u8;
         x = next;
-        i += 1;
     }
 }
 
-// The made text of k symbols fills the buffer; where the call is refused, the buffer stays as it
-// is.
-pub fn make_text(k: usize, seed: u64, text: &mut [u8]) -> Answer
+// The made text of k symbols fills the buffer; where the call is refused, with 4 or 41, the buffer
+// stays as it is.
+pub fn make_text(k: usize, seed: u64, text: &mut [u8]) -> Result<(), Refusal>
     ensures { Makes k seed text.old result text.new }
 {
     if k < 1 {
-        return Answer::Refused(4);
+        return Err(Refusal::SymbolCount);
     }
     if limits::SYMBOLS < k {
-        return Answer::Refused(4);
+        return Err(Refusal::SymbolCount);
     }
     if seed == 0 {
-        return Answer::Refused(41);
+        return Err(Refusal::NoSeed);
     }
     fill(k, seed, text);
-    Answer::Accepted
+    Ok(())
 }

@@ -9,36 +9,19 @@ use lib.ListN.{length, take, drop, length-drop}
 use lib.Seq.{take_all, drop-drop}
 use Rattle.lines.specs.Splitting.{up_to, past}
 use Rattle.lines.proofs.Splits.{up_take, past_there, past_none}
-use Rattle.fields.specs.declared.Number.{Number}
-use Rattle.fields.specs.declared.Number.TheVariants.{Value, Malformed}
-use Rattle.fields.specs.Numbers.{parse_number, number_means}
+use Rattle.fields.specs.Numbers.{parse_number}
 use Rattle.maketextlines.specs.Lines.{Meaning, makes, malformed, up_to_most, makes_by, line_in}
 
 -- ---- the three numbers
-module _ (k s n : List ℕ) (x : Number) (said : number_means x ≡ parse_number k) where
+module _ (k s n : List ℕ) (v : ℕ) (e : some v ≡ parse_number k) (u : ℕ) (d : some u ≡ parse_number s) (m : ℕ) (f : some m ≡ parse_number n) where
   abbrev meant : Meaning
   meant = makes_by (parse_number k) (parse_number s) (up_to_most 65536 (parse_number n))
 
-  pub no_symbols : x ≡ Malformed → malformed ≡ meant
-  no_symbols e = rw (sym said ∙ ap number_means e)
+  pub great_length : 65536 < m → malformed ≡ meant
+  great_length l = rw (← e, ← d, ← f, lt-leb m 65536 l)
 
-  module _ (v : ℕ) (e : x ≡ Value v) where
-    module _ (y : Number) (says : number_means y ≡ parse_number s) where
-      pub no_seed : y ≡ Malformed → malformed ≡ meant
-      no_seed d = rw (sym said ∙ ap number_means e, sym says ∙ ap number_means d)
-
-      module _ (u : ℕ) (d : y ≡ Value u) (z : Number) (tells : number_means z ≡ parse_number n) where
-        pub no_length : z ≡ Malformed → malformed ≡ meant
-        no_length f =
-            rw (sym said ∙ ap number_means e, sym says ∙ ap number_means d, sym tells ∙ ap number_means f)
-
-        pub great_length : (m : ℕ) → z ≡ Value m → 65536 < m → malformed ≡ meant
-        great_length m f l =
-            rw (sym said ∙ ap number_means e, sym says ∙ ap number_means d, sym tells ∙ ap number_means f, lt-leb m 65536 l)
-
-        pub all_three : (m : ℕ) → z ≡ Value m → m ≤ 65536 → makes v u m ≡ meant
-        all_three m f l =
-            rw (sym said ∙ ap number_means e, sym says ∙ ap number_means d, sym tells ∙ ap number_means f, le-leb m 65536 l)
+  pub all_three : m ≤ 65536 → makes v u m ≡ meant
+  all_three l = rw (← e, ← d, ← f, le-leb m 65536 l)
 
 -- ---- `space` is the index of the first space from `from` on
 module _ (w : List ℕ) (from space : ℕ) (long : from ≤ length w) (found : space ≡ from + length (up_to 32 (drop from w))) where

@@ -8,7 +8,7 @@
 --   length_most              the text of a line is not too long
 --   prefix                   a part of a list has its length
 --   made_to, malformed_to    the ways out of `put_answer`
-use mathlib.Core.Path.{◌≡◌, refl, sym, ap, ◌∙◌, subst}
+use mathlib.Core.Path.{◌≡◌, refl, sym, ◌∙◌, subst}
 use mathlib.Core.List.{List, [], ◌∷◌, ◌++◌}
 use mathlib.Core.Option.{Option, none, some}
 use Prim.Native.Nat.{ℕ, ◌+◌, ◌≤◌, ◌<◌}
@@ -17,7 +17,9 @@ use lib.Dec.{leb}
 use lib.ListN.{length, take}
 use lib.Seq.{length-take-le}
 use borrow.Author.Tests.{leb-true}
-use Rattle.base.specs.Answers.{answer_number}
+use Rattle.std.proofs.Common.{Ok, Err, Some, None}
+use Rattle.base.specs.declared.Refusal.{Refusal}
+use Rattle.base.specs.Answers.{refusal_number}
 use Rattle.base.proofs.Tests.{by_test, zero_one}
 use Rattle.text.specs.Writing.{Wrote}
 use Rattle.text.proofs.Fitting.{Put, put, ◌then◌}
@@ -26,12 +28,9 @@ use Rattle.answers.specs.Answers.{refused_text, malformed_text}
 use Rattle.fields.specs.Numbers.{parse_number}
 use Rattle.fields.specs.Claims.{digits_of, field_of}
 use Rattle.hexfields.proofs.Digits.{digits_length}
-use Rattle.base.specs.declared.Answer.{Answer}
-use Rattle.base.specs.declared.Answer.TheVariants.{Accepted, Refused}
 use Rattle.madetexts.specs.Values.{made_text}
-use Rattle.madetexts.specs.Making.{made_number, Makes}
+use Rattle.madetexts.specs.Making.{Makes}
 use Rattle.maketextlines.specs.declared.TextLine.{TextLine}
-use Rattle.maketextlines.specs.declared.TextLine.TheVariants as line
 use Rattle.maketextlines.specs.Lines.{Meaning, makes, up_to_most, makes_by, length_fields, seed_fields, line_in, line_means}
 use Rattle.maketextlines.specs.Answers.{made_answer, answer_in, answer_to}
 
@@ -60,19 +59,16 @@ module _ (b : List ℕ) {before : List ℕ} {at : ℕ} {mid : List ℕ} {e : ℕ
   both : {after : List ℕ} {f : ℕ} → Wrote mid e (10 ∷ []) after f → Wrote before at (field_of b ++ (10 ∷ [])) after f
   both v = (first then put (omega (arith, byte_left)) v).wrote
 
-  pub made_line : (k seed : ℕ) (t : List ℕ) (r : Answer) → Makes k seed t r b → r ≡ Accepted → {after : List ℕ} {f : ℕ}
+  pub made_line : (k seed : ℕ) (t : List ℕ) → Makes k seed t (Ok tt) b → {after : List ℕ} {f : ℕ}
       → Wrote mid e (10 ∷ []) after f → Wrote before at (made_answer k seed (length t)) after f
-  made_line k seed t r m is {after} {f} v =
-      let number : none ≡ made_number k seed = sym (ap answer_number is) ∙ m.answer in
-      let text : b ≡ made_text k seed (length t) = m.buffer ∙ rw (← number) in
-      rw (← number) (subst (λ (u : List ℕ). Wrote before at (field_of u ++ (10 ∷ [])) after f) text (both v))
+  made_line k seed t m {after} {f} v =
+      let text : b ≡ made_text k seed (length t) = m.buffer ∙ rw (← m.answer) in
+      rw (← m.answer) (subst (λ (u : List ℕ). Wrote before at (field_of u ++ (10 ∷ [])) after f) text (both v))
 
-pub refused_line_lem : (k seed : ℕ) (t : List ℕ) (r : Answer) (b : List ℕ) → Makes k seed t r b → (x : ℕ) → r ≡ Refused x
-    → {before : List ℕ} {at : ℕ} {after : List ℕ} {f : ℕ} → Wrote before at (refused_text x) after f
+pub refused_line_lem : (k seed : ℕ) (t b : List ℕ) (x : Refusal) → Makes k seed t (Err x) b
+    → {before : List ℕ} {at : ℕ} {after : List ℕ} {f : ℕ} → Wrote before at (refused_text (refusal_number x)) after f
     → Wrote before at (made_answer k seed (length t)) after f
-refused_line_lem k seed t r b m x is v =
-    let number : some x ≡ made_number k seed = sym (ap answer_number is) ∙ m.answer in
-    rw (← number) v
+refused_line_lem k seed t b x m v = rw (← m.answer) v
 
 -- ---- `put_answer`
 most_by : (k seed o : Option ℕ) (x y n : ℕ) → makes_by k seed (up_to_most 65536 o) ≡ makes x y n → n ≤ 65536
@@ -92,22 +88,20 @@ pub most_rest : (k : List ℕ) (o : Option (List ℕ)) (x y n : ℕ) → seed_fi
 most_rest k none x y n e = zero_one cc
 most_rest k (some w) x y n e = most_fields k (up_to 32 w) (past 32 w) x y n e
 
-module _ (w : List ℕ) (r : TextLine) (said : line_means r ≡ line_in w) where
-  pub length_most : (k seed n : ℕ) → r ≡ line.Makes k seed n → n ≤ 65536
+module _ (w : List ℕ) where
+  pub length_most : (l : TextLine) → line_means (Some l) ≡ line_in w → l.length ≤ 65536
   unfolding line_in
-  length_most k seed n e = most_rest (up_to 32 w) (past 32 w) k seed n (sym said ∙ ap line_means e)
+  length_most l said = most_rest (up_to 32 w) (past 32 w) l.k l.seed l.length (sym said)
 
-  pub made_to : (k seed n : ℕ) → r ≡ line.Makes k seed n → (t : List ℕ) → length t ≡ n
-      → {before : List ℕ} {at : ℕ} {after : List ℕ} {f : ℕ} → Wrote before at (made_answer k seed (length t)) after f
-      → Wrote before at (answer_to w) after f
-  made_to k seed n e t l {before} {at} {after} {f} v =
-      subst (λ (m : Meaning). Wrote before at (answer_in m) after f) (sym (ap line_means e) ∙ said)
-      (subst (λ (x : ℕ). Wrote before at (made_answer k seed x) after f) l v)
+  module _ {before : List ℕ} {at : ℕ} {after : List ℕ} {f : ℕ} where
+    pub made_to : (l : TextLine) → line_means (Some l) ≡ line_in w → (t : List ℕ) → length t ≡ l.length
+        → Wrote before at (made_answer l.k l.seed (length t)) after f → Wrote before at (answer_to w) after f
+    made_to l said t size v =
+        subst (λ (m : Meaning). Wrote before at (answer_in m) after f) said
+        (subst (λ (x : ℕ). Wrote before at (made_answer l.k l.seed x) after f) size v)
 
-  pub malformed_to : r ≡ line.Malformed → {before : List ℕ} {at : ℕ} {after : List ℕ} {f : ℕ} → Wrote before at malformed_text after f
-      → Wrote before at (answer_to w) after f
-  malformed_to e {before} {at} {after} {f} v =
-      subst (λ (m : Meaning). Wrote before at (answer_in m) after f) (sym (ap line_means e) ∙ said) v
+    pub malformed_to : line_means None ≡ line_in w → Wrote before at malformed_text after f → Wrote before at (answer_to w) after f
+    malformed_to said v = subst (λ (m : Meaning). Wrote before at (answer_in m) after f) said v
 
 pub prefix : (n : ℕ) (w : List ℕ) → n ≤ length w → n ≡ length (take n w)
 prefix n w h = sym (length-take-le n w h)

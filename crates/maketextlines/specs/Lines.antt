@@ -7,13 +7,13 @@
 --   makes_by, length_fields, seed_fields  the meaning, from what the fields say
 --   line_in w           what the line w means
 --   line_means r        what each case of the code's answer says
-use Rattle.std.specs.Prelude.{cond, List, ℕ, ◌+◌, ◌*◌, leb}
+use Rattle.std.specs.Prelude as code
+use Rattle.std.specs.Prelude.{Some, None, cond, List, ℕ, ◌+◌, ◌*◌, leb}
 use Rattle.std.proofs.Math.Option.{Option, none, some}
 use Rattle.limits.specs.Limits.{most_digits, longest_chunk}
 use Rattle.lines.specs.Splitting.{up_to, past}
 use Rattle.fields.specs.Numbers.{parse_number}
 use Rattle.maketextlines.specs.declared.TextLine.{TextLine}
-use Rattle.maketextlines.specs.declared.TextLine.TheVariants.{Makes, Malformed}
 
 abbrev pub longest_line : ℕ
 longest_line = 3 * most_digits + 2
@@ -46,6 +46,6 @@ seed_fields k (some w) = length_fields k (up_to 32 w) (past 32 w)
 unfoldable pub line_in : List ℕ → Meaning
 line_in w = seed_fields (up_to 32 w) (past 32 w)
 
-abbrev pub line_means : TextLine → Meaning
-line_means (Makes k seed n) = makes k seed n
-line_means Malformed = malformed
+abbrev pub line_means : code.Option TextLine → Meaning
+line_means None = malformed
+line_means (Some l) = makes l.k l.seed l.length

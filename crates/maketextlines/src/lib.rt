@@ -9,9 +9,6 @@ ghost use Rattle.fields.specs.Claims.{field_of};
 ghost use Rattle.maketextlines.specs.Lines.{up_to_most, makes_by, line_in, line_means};
 ghost use Rattle.maketextlines.specs.Answers.{most_answer, made_answer, answer_to};
 
-use base::Answer;
-use fields::Number;
-
 // The longest line of the grammar: three numbers, and a space between each two.
 pub const LINE: usize = 3 * limits::DIGITS + 2;
 
@@ -21,49 +18,45 @@ pub const ANSWER: usize = 2 * limits::CHUNK + 1;
 // The greatest length of a text.
 const TEXT: u64 = limits::CHUNK as u64;
 
-// A line: k, the seed and the length of a text to make.
+// What a line says: k, the seed and the length of a text to make.
 #[derive(Clone, Copy)]
-pub enum TextLine {
-    Makes(usize, u64, usize),
-    Malformed,
+pub struct TextLine {
+    pub k: usize,
+    pub seed: u64,
+    pub length: usize,
 }
 
-// The line of three fields.
-fn numbers(k: &[u8], seed: &[u8], length: &[u8]) -> TextLine
+// The line of three fields; none where it is malformed.
+fn numbers(k: &[u8], seed: &[u8], length: &[u8]) -> Option<TextLine>
     ensures { line_means result
         ≡ makes_by (parse_number k.now) (parse_number seed.now)
         (up_to_most longest_chunk (parse_number length.now)) }
 {
-    let number = fields::read_number(k);
-    let Number::Value(symbols) = number else {
-        return TextLine::Malformed;
-    };
-    let number = fields::read_number(seed);
-    let Number::Value(from) = number else {
-        return TextLine::Malformed;
-    };
-    let number = fields::read_number(length);
-    let Number::Value(n) = number else {
-        return TextLine::Malformed;
-    };
+    let symbols = fields::read_number(k)?;
+    let from = fields::read_number(seed)?;
+    let n = fields::read_number(length)?;
     if TEXT < n {
-        return TextLine::Malformed;
+        return None;
     }
-    TextLine::Makes(symbols as usize, from, n as usize)
+    Some(TextLine {
+        k: symbols as usize,
+        seed: from,
+        length: n as usize,
+    })
 }
 
 // Takes a line apart at its first two spaces.
-fn parse(line: &[u8]) -> TextLine
+fn parse(line: &[u8]) -> Option<TextLine>
     ensures { line_means result ≡ line_in line.now }
 {
     let first = lines::find(line, 0, b' ');
     if line.len() <= first {
-        return TextLine::Malformed;
+        return None;
     }
     let from = first + 1;
     let second = lines::find(line, from, b' ');
     if line.len() <= second {
-        return TextLine::Malformed;
+        return None;
     }
     let end = second + 1;
     numbers(&line[..first], &line[from..second], &line[end..])
@@ -86,13 +79,12 @@ fn put_made(k: usize, seed: u64, text: &mut [u8], out: &mut [u8], at: usize) -> 
     ensures { Wrote out.old at (made_answer k seed (length text.old))
         out.new result }
 {
-    let answer = madetexts::make_text(k, seed, text);
-    match answer {
-        Answer::Accepted => {
+    match madetexts::make_text(k, seed, text) {
+        Ok(()) => {
             let end = put_field(out, at, text);
             text::put_byte(out, end, b'\n')
         }
-        Answer::Refused(number) => answers::put_refused(out, at, number),
+        Err(refusal) => answers::put_refused(out, at, refusal.number()),
     }
 }
 
@@ -101,9 +93,8 @@ pub fn put_answer(line: &[u8], buffer: &mut [u8], out: &mut [u8], at: usize) -> 
     requires { (longest_chunk ≤ length buffer.old) × (at + most_answer ≤ length out.old) }
     ensures { Wrote out.old at (answer_to line.now) out.new result }
 {
-    let parsed = parse(line);
-    match parsed {
-        TextLine::Makes(k, seed, n) => put_made(k, seed, &mut buffer[..n], out, at),
-        TextLine::Malformed => answers::put_malformed(out, at),
-    }
+    let Some(made) = parse(line) else {
+        return answers::put_malformed(out, at);
+    };
+    put_made(made.k, made.seed, &mut buffer[..made.length], out, at)
 }

@@ -32,7 +32,8 @@ fn answer_held(line: &[u8], held: Held, text: &mut [u8], out: &mut [u8], at: usi
 }
 
 // The parts of a block from an index on, while there is room for their answers, which stand one
-// behind the other at the start of `out`. `line` keeps the line.
+// behind the other at the start of `out`. `line` keeps the line. Not `linetexts::gather`: its answers
+// need `text`, which is lent, and a type with a lifetime cannot be `AnswersLines` yet.
 pub fn gather(
     held: Held,
     line: &mut [u8],

@@ -3,8 +3,8 @@
 --   Agrees h s   the state s is what the calls h say: the profile of the last file that was built, or
 --                none
 --   agrees       so it is after every list of calls
+use Rattle.std.proofs.Common.{Some, None}
 use mathlib.Core.Path.{◌≡◌, refl, sym, subst}
-use mathlib.Core.Bool.{true, false}
 use mathlib.Core.List.{List, [], ◌∷◌}
 use mathlib.Core.Option.{Option, none, some}
 use Prim.Native.Nat.{ℕ}
@@ -46,14 +46,14 @@ taken f count r = let t = read_by f count (refusal f) r in record { takes = t.0;
 
 -- ---- the state is what the calls say
 pub data Agrees : Option (List ℕ) → MapState → Type 0 where
-  nothing : {p : Profile} → Agrees none (record { there = false; profile = p })
-  some_built : {f : List ℕ} → Takes (rule_of f) → Agrees (some f) (record { there = true; profile = profile_of (rule_of f) })
+  nothing : Agrees none (record { profile = None })
+  some_built : {f : List ℕ} → Takes (rule_of f) → Agrees (some f) (record { profile = Some (profile_of (rule_of f)) })
 
 builds_agree : (f : List ℕ) (o : Option (List ℕ)) (s : MapState) → Agrees o s → (a : Answer) → (profile_in f).reply ≡ a
     → Agrees (built_by a f o) (kept_by a (profile_in f) s)
 builds_agree f o s so (accepted count) e =
     let t = taken f count e in
-    subst (λ (p : Profile). Agrees (some f) (record { there = true; profile = p })) (sym t.profile) (some_built t.takes)
+    subst (λ (p : Profile). Agrees (some f) (record { profile = Some p })) (sym t.profile) (some_built t.takes)
 builds_agree f o s so (turned_down x) e = so
 
 pub agrees : (h : List Call) → Agrees (last_built h) (state_after map_machine h)

@@ -14,24 +14,26 @@
 --     said b            yes or no
 --     lacking           there is no profile
 --     refused x         refused with the number x
---   MapState            whether there is a profile, and which; one that is not there is not looked at
+--   MapState            the profile, if there is one
 --   none_yet            no profile
 --   reply_of s c        what the call c is answered on the state s
 --   next_of s c          the state that it leaves
 --   map_machine         both, from no profile on
---   answer_means, reply_means  what each case of the code's answer says, with the mapping beside it
---   masks_by a          the masks that stand beside the reply a: the mapping's, else zeros (R-3)
-use Rattle.std.specs.Prelude.{Bool, true, false, cond, List, ℕ, replicate}
+--   run_with o w, ask_with o f  the reply to a run and to a question, by the profile, if there is one
+--   reply_means         what each case of the code's answer says
+use Rattle.std.specs.Prelude.{Some, None, Bool, true, false, List, ℕ}
+use Rattle.std.specs.Prelude as code
 use Rattle.std.proofs.Math.Option.{Option, none, some}
+use Rattle.base.specs.Answers.{refusal_number}
 use Rattle.executions.specs.Executions.{Machine}
-use Rattle.mappings.specs.Mappings.{mapped_states, compose}
-use Rattle.profile.specs.Profiles.{Building, no_profile, Reply as Answer, accepted, refused as turned_down}
+use Rattle.mappings.specs.Mappings.{compose}
+use Rattle.profile.specs.declared.Profile.{Profile}
+use Rattle.profile.specs.Profiles.{Building, Reply as Answer, accepted, refused as turned_down}
 use Rattle.profile.specs.Runs.{Ran, run_of, verdict_of}
 use Rattle.profilefile.specs.Files.{profile_in}
 use Rattle.mapcalls.specs.declared.MapState.{MapState}
 use Rattle.mapcalls.specs.declared.MapAnswer.{MapAnswer}
 use Rattle.mapcalls.specs.declared.MapAnswer.TheVariants.{Forgotten, Built, Mapped, Yes, No, Lacking, Refused}
-use Rattle.mapcalls.specs.declared.MapReply.{MapReply}
 
 pub data Call : Type 0 where
   forgets : Call
@@ -49,7 +51,7 @@ pub data Reply : Type 0 where
   refused : ℕ → Reply
 
 abbrev pub none_yet : MapState
-none_yet = record { there = false; profile = no_profile }
+none_yet = record { profile = None }
 
 -- ---- building
 abbrev pub built_reply : Answer → Reply
@@ -57,7 +59,7 @@ built_reply (accepted count) = built count
 built_reply (turned_down x) = refused x
 
 abbrev pub kept_by : Answer → Building → MapState → MapState
-kept_by (accepted count) b s = record { there = true; profile = b.profile }
+kept_by (accepted count) b s = record { profile = Some b.profile }
 kept_by (turned_down x) b s = s
 
 -- ---- running and asking
@@ -68,13 +70,21 @@ ran_by (some x) f = refused x
 abbrev pub ran_reply : Ran → Reply
 ran_reply r = ran_by r.refusal r.masks
 
+abbrev pub run_with : code.Option Profile → List ℕ → Reply
+run_with None w = lacking
+run_with (Some p) w = ran_reply (run_of p w)
+
+abbrev pub ask_with : code.Option Profile → List ℕ → Reply
+ask_with None f = lacking
+ask_with (Some p) f = said (verdict_of p f)
+
 -- ---- all calls
 unfoldable pub reply_of : MapState → Call → Reply
 reply_of s forgets = forgotten
 reply_of s (builds f) = built_reply (profile_in f).reply
-reply_of s (runs w) = cond s.there (ran_reply (run_of s.profile w)) lacking
+reply_of s (runs w) = run_with s.profile w
 reply_of s (composes f g) = mapped (compose f g)
-reply_of s (asks f) = cond s.there (said (verdict_of s.profile f)) lacking
+reply_of s (asks f) = ask_with s.profile f
 
 unfoldable pub next_of : MapState → Call → MapState
 next_of s forgets = none_yet
@@ -87,22 +97,11 @@ abbrev pub map_machine : Machine MapState Call Reply
 map_machine = record { fresh = none_yet; reply = reply_of; next = next_of }
 
 -- ---- what the code answers
-abbrev pub answer_means : MapAnswer → List ℕ → Reply
-answer_means Forgotten f = forgotten
-answer_means (Built count) f = built count
-answer_means Mapped f = mapped f
-answer_means Yes f = said true
-answer_means No f = said false
-answer_means Lacking f = lacking
-answer_means (Refused x) f = refused x
-
-abbrev pub reply_means : MapReply → Reply
-reply_means r = answer_means r.answer r.mapping.masks
-
-abbrev pub masks_by : Reply → List ℕ
-masks_by forgotten = replicate mapped_states 0
-masks_by (built count) = replicate mapped_states 0
-masks_by (mapped f) = f
-masks_by (said b) = replicate mapped_states 0
-masks_by lacking = replicate mapped_states 0
-masks_by (refused x) = replicate mapped_states 0
+abbrev pub reply_means : MapAnswer → Reply
+reply_means Forgotten = forgotten
+reply_means (Built count) = built count
+reply_means (Mapped mapping) = mapped mapping.masks
+reply_means Yes = said true
+reply_means No = said false
+reply_means Lacking = lacking
+reply_means (Refused refusal) = refused (refusal_number refusal)

@@ -6,7 +6,7 @@
 --   line-…                  a line by the word with which it begins
 --   changed, unchanged      whether a line may change the profile
 use mathlib.Core.Path.{◌≡◌, refl, sym, ap, ◌∙◌, subst}
-use mathlib.Core.Bool.{Bool, true, false, true≢false, cond, not}
+use mathlib.Core.Bool.{Bool, true, false, true≢false, cond}
 use mathlib.Core.List.{List, [], ◌∷◌}
 use mathlib.Core.Option.{Option, none, some}
 use Prim.Native.Nat.{ℕ, suc, ◌+◌, ◌-◌, ◌≤◌, ◌<◌}
@@ -19,14 +19,12 @@ use Rattle.base.proofs.Tests.{by_test}
 use Rattle.text.specs.Writing.{Wrote}
 use Rattle.lines.specs.Splitting.{begins, up_to, past}
 use Rattle.lines.proofs.Splits.{begins_short, up_take, past_there, past_none}
-use Rattle.fields.specs.declared.Bytes.{Bytes}
-use Rattle.fields.specs.declared.Bytes.TheVariants.{Put, Malformed}
 use Rattle.fields.specs.Bytes.{parse_bytes, Took}
 use Rattle.fields.proofs.Taking.{carries, not_bytes}
-use Rattle.maptext.specs.declared.MappingField.{MappingField}
-use Rattle.maptext.specs.MappingText.{parse_mapping, field_by, Read}
+use Rattle.mappings.specs.declared.Mapping.{Mapping}
+use Rattle.maptext.specs.MappingText.{parse_mapping}
 use Rattle.mapcalls.specs.declared.MapState.{MapState}
-use Rattle.mapcalls.specs.declared.MapReply.{MapReply}
+use Rattle.mapcalls.specs.declared.MapAnswer.{MapAnswer}
 use Rattle.mapcalls.specs.Calls.{Call, Reply, forgets, builds, runs, composes, asks, none_yet, reply_of, next_of, reply_means}
 use Rattle.maplines.specs.Lines.{build_word, run_word, compose_word, verdict_word, build_by, run_by, ask_by, compose_by, compose_fields, ask_in, line_in, changes}
 use Rattle.mapreplies.specs.Replies.{reply_text}
@@ -46,19 +44,19 @@ replied {s} c {a} {before} {after} {r} is w = record {
 }
 
 -- ---- a file and a chunk
-module _ (field before after : List ℕ) (x : Bytes) (took : Took field before x after) (s : MapState) where
-  module _ (e : x ≡ Malformed) (b a : List ℕ) (said : Said) (wrote : (t : MapState) → Says t none b a said) where
+module _ (field before after : List ℕ) (x : Option ℕ) (took : Took field before x after) (s : MapState) where
+  module _ (e : x ≡ none) (b a : List ℕ) (said : Said) (wrote : (t : MapState) → Says t none b a said) where
     pub run_malformed : Says s (run_by (parse_bytes field)) b a said
     run_malformed = rw (not_bytes field before after x took e) (wrote s)
 
     pub build_malformed : Says s (build_by (parse_bytes field)) b a said
     build_malformed = rw (not_bytes field before after x took e) (wrote s)
 
-  pub build_stays : x ≡ Malformed → s ≡ left_by s (build_by (parse_bytes field))
+  pub build_stays : x ≡ none → s ≡ left_by s (build_by (parse_bytes field))
   build_stays e = rw (not_bytes field before after x took e)
 
-  module _ (room : 65537 ≤ length before) (n : ℕ) (put : x ≡ Put n) where
-    module _ (r : MapReply) (b a : List ℕ) (said : Said) (wrote : Replies (reply_means r) b a said) where
+  module _ (room : 65537 ≤ length before) (n : ℕ) (put : x ≡ some n) where
+    module _ (r : MapAnswer) (b a : List ℕ) (said : Said) (wrote : Replies (reply_means r) b a said) where
       pub run_put : reply_means r ≡ reply_of s (runs (take n after)) → Says s (run_by (parse_bytes field)) b a said
       run_put is =
           let k = carries field before after x took n put in
@@ -78,28 +76,13 @@ module _ (field before after : List ℕ) (x : Bytes) (took : Took field before x
         rw k.said whole
 
 -- ---- a mapping
-not_found : (b : Bool) → not b ≡ true → b ≡ false
-not_found true e = sym e
-not_found false e = refl
+module _ (field : List ℕ) (s : MapState) (b a : List ℕ) (said : Said) where
+  pub ask_malformed : none ≡ parse_mapping field → ((t : MapState) → Says t none b a said) → Says s (ask_by (parse_mapping field)) b a said
+  ask_malformed read wrote = by_call (ap ask_by read) (wrote s)
 
-was_found : (b : Bool) → not b ≡ false → b ≡ true
-was_found true e = refl
-was_found false e = sym e
-
-module _ (field : List ℕ) (r : MappingField) (read : Read field r) where
-  says_none : not r.found ≡ true → parse_mapping field ≡ none
-  says_none e = sym read.says ∙ ap (λ (b : Bool). field_by b r.mapping.masks) (not_found r.found e)
-
-  says_some : not r.found ≡ false → parse_mapping field ≡ some r.mapping.masks
-  says_some e = sym read.says ∙ ap (λ (b : Bool). field_by b r.mapping.masks) (was_found r.found e)
-
-  module _ (s : MapState) (b a : List ℕ) (said : Said) where
-    pub ask_malformed : not r.found ≡ true → ((t : MapState) → Says t none b a said) → Says s (ask_by (parse_mapping field)) b a said
-    ask_malformed e wrote = by_call (ap ask_by (sym (says_none e))) (wrote s)
-
-    pub ask_put : not r.found ≡ false → (reply : MapReply) → reply_means reply ≡ reply_of s (asks r.mapping.masks)
-        → Replies (reply_means reply) b a said → Says s (ask_by (parse_mapping field)) b a said
-    ask_put e reply is wrote = by_call (ap ask_by (sym (says_some e))) (replied (asks r.mapping.masks) is wrote)
+  pub ask_put : (m : Mapping) → some m.masks ≡ parse_mapping field → (reply : MapAnswer) → reply_means reply ≡ reply_of s (asks m.masks)
+      → Replies (reply_means reply) b a said → Says s (ask_by (parse_mapping field)) b a said
+  ask_put m read reply is wrote = by_call (ap ask_by read) (replied (asks m.masks) is wrote)
 
 -- a part of a line up to its end
 to_the_end : (w : List ℕ) (from : ℕ) → take (length w - from) (drop from w) ≡ drop from w
@@ -120,7 +103,7 @@ module _ (w : List ℕ) (long : 8 ≤ length w) (space : ℕ) (found : space ≡
   compose_alone l wrote s =
       malformed_by (ap (compose_fields (up_to 32 (drop 8 w))) (past_none 32 (drop 8 w) (omega (arith, rest_length)))) wrote s
 
-  module _ (here : space < length w) (r : MappingField) (read : Read (take (space - 8) (drop 8 w)) r) where
+  module _ (here : space < length w) where
     part_is : take (space - 8) (drop 8 w) ≡ up_to 32 (drop 8 w)
     part_is =
         let size : space - 8 ≡ length (up_to 32 (drop 8 w)) = omega (arith, found) in
@@ -138,24 +121,26 @@ module _ (w : List ℕ) (long : 8 ≤ length w) (space : ℕ) (found : space ≡
         ap (compose_fields (up_to 32 (drop 8 w))) behind_is
         ∙ ap (λ (v : List ℕ). compose_by (parse_mapping v) (parse_mapping (drop (space + 1) w))) (sym part_is)
 
-    pub compose_first : not r.found ≡ true → ((t : MapState) → Says t none b a said) → (s : MapState) → Says s fields b a said
-    compose_first e wrote s =
-        malformed_by (fields_are ∙ ap (λ (o : Option (List ℕ)). compose_by o (parse_mapping (drop (space + 1) w))) (says_none _ r read e)) wrote s
+    pub compose_first : none ≡ parse_mapping (take (space - 8) (drop 8 w)) → ((t : MapState) → Says t none b a said) → (s : MapState) → Says s fields b a said
+    compose_first read wrote s =
+        malformed_by (fields_are ∙ sym (ap (λ (o : Option (List ℕ)). compose_by o (parse_mapping (drop (space + 1) w))) read)) wrote s
 
-    module _ (e : not r.found ≡ false) (q : MappingField) (read-2 : Read (take (length w - (space + 1)) (drop (space + 1) w)) q) where
-      both_are : (o : Option (List ℕ)) → parse_mapping (take (length w - (space + 1)) (drop (space + 1) w)) ≡ o → fields ≡ compose_by (some r.mapping.masks) o
+    module _ (m : Mapping) (read : some m.masks ≡ parse_mapping (take (space - 8) (drop 8 w))) where
+      both_are : (o : Option (List ℕ)) → o ≡ parse_mapping (take (length w - (space + 1)) (drop (space + 1) w)) → fields ≡ compose_by (some m.masks) o
       both_are o is =
           fields_are
-          ∙ ap (λ (x : Option (List ℕ)). compose_by x (parse_mapping (drop (space + 1) w))) (says_some _ r read e)
-          ∙ ap (compose_by (some r.mapping.masks)) (ap parse_mapping (sym (to_the_end w (space + 1))) ∙ is)
+          ∙ sym (ap (λ (x : Option (List ℕ)). compose_by x (parse_mapping (drop (space + 1) w))) read)
+          ∙ ap (compose_by (some m.masks)) (ap parse_mapping (sym (to_the_end w (space + 1))) ∙ sym is)
 
-      pub compose_second : not q.found ≡ true → ((t : MapState) → Says t none b a said) → (s : MapState) → Says s fields b a said
-      compose_second f wrote s = malformed_by (both_are none (says_none _ q read-2 f)) wrote s
+      pub compose_second : none ≡ parse_mapping (take (length w - (space + 1)) (drop (space + 1) w)) → ((t : MapState) → Says t none b a said)
+          → (s : MapState) → Says s fields b a said
+      compose_second is wrote s = malformed_by (both_are none is) wrote s
 
-      pub compose_put : not q.found ≡ false → (reply : MapReply) → ((s : MapState) → reply_means reply ≡ reply_of s (composes r.mapping.masks q.mapping.masks))
+      pub compose_put : (n : Mapping) → some n.masks ≡ parse_mapping (take (length w - (space + 1)) (drop (space + 1) w))
+          → (reply : MapAnswer) → ((s : MapState) → reply_means reply ≡ reply_of s (composes m.masks n.masks))
           → Replies (reply_means reply) b a said → (s : MapState) → Says s fields b a said
-      compose_put f reply is wrote s =
-          by_call (sym (both_are (some q.mapping.masks) (says_some _ q read-2 f))) (replied (composes r.mapping.masks q.mapping.masks) (is s) wrote)
+      compose_put n is reply replies wrote s =
+          by_call (sym (both_are (some n.masks) is)) (replied (composes m.masks n.masks) (replies s) wrote)
 
 -- ---- the word with which a line begins
 pub told : {b t x : Bool} → b ≡ x → b ≡ t → x ≡ t

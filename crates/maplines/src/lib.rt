@@ -12,8 +12,7 @@ ghost use Rattle.mapreplies.specs.Replies.{most_answer};
 ghost use Rattle.maplines.specs.Lines.{run_by, build_by, ask_by, compose_fields, ask_in, line_in, changes as changesBy};
 ghost use Rattle.maplines.specs.Answers.{left_by, Says, Replies, Scratch};
 
-use fields::Bytes;
-use mapcalls::{MapReply, MapState};
+use mapcalls::{MapAnswer, MapState};
 
 // How many bytes the answer to a line has, and whether it ended its list: it was malformed.
 #[derive(Clone, Copy)]
@@ -40,7 +39,7 @@ pub fn say_malformed(out: &mut [u8]) -> Said
 }
 
 // The answer to a call.
-fn say_reply(out: &mut [u8], reply: MapReply) -> Said
+fn say_reply(out: &mut [u8], reply: MapAnswer) -> Said
     requires { most_answer ≤ length out.old }
     ensures { Replies (reply_means reply) out.old out.new result }
 {
@@ -56,11 +55,10 @@ fn answer_run(state: MapState, field: &[u8], bytes: &mut [u8], out: &mut [u8]) -
     ensures says { Says state (run_by (parse_bytes field.now)) out.old out.new result }
     ensures scratch { Scratch bytes.old bytes.new }
 {
-    let read = fields::read_bytes(field, bytes);
-    match read {
-        Bytes::Malformed => say_malformed(out),
-        Bytes::Put(n) => say_reply(out, mapcalls::run(state, &bytes[..n])),
-    }
+    let Some(n) = fields::read_bytes(field, bytes) else {
+        return say_malformed(out);
+    };
+    say_reply(out, mapcalls::run(state, &bytes[..n]))
 }
 
 // Two mappings, the earlier chunk's first, one space between them, from index 8 of the line on.
@@ -72,16 +70,14 @@ fn answer_compose(line: &[u8], out: &mut [u8]) -> Said
     if line.len() <= space {
         return say_malformed(out);
     }
-    let earlier = maptext::read_mapping(&line[8..space]);
-    if !earlier.found {
+    let Some(earlier) = maptext::read_mapping(&line[8..space]) else {
         return say_malformed(out);
-    }
+    };
     let from = space + 1;
-    let later = maptext::read_mapping(&line[from..]);
-    if !later.found {
+    let Some(later) = maptext::read_mapping(&line[from..]) else {
         return say_malformed(out);
-    }
-    say_reply(out, mapcalls::compose(earlier.mapping, later.mapping))
+    };
+    say_reply(out, mapcalls::compose(earlier, later))
 }
 
 // A field that says a mapping.
@@ -89,11 +85,10 @@ fn answer_verdict(state: MapState, field: &[u8], out: &mut [u8]) -> Said
     requires { most_answer ≤ length out.old }
     ensures { Says state (ask_by (parse_mapping field.now)) out.old out.new result }
 {
-    let read = maptext::read_mapping(field);
-    if !read.found {
+    let Some(mapping) = maptext::read_mapping(field) else {
         return say_malformed(out);
-    }
-    say_reply(out, mapcalls::ask(state, read.mapping))
+    };
+    say_reply(out, mapcalls::ask(state, mapping))
 }
 
 // A field that says a rule file.
@@ -103,20 +98,14 @@ fn answer_build(state: MapState, field: &[u8], bytes: &mut [u8], out: &mut [u8])
     ensures text { Says state (build_by (parse_bytes field.now)) out.old out.new result.said }
     ensures scratch { Scratch bytes.old bytes.new }
 {
-    let read = fields::read_bytes(field, bytes);
-    match read {
-        Bytes::Malformed => {
-            let said = say_malformed(out);
-            Answered { state, said }
-        }
-        Bytes::Put(n) => {
-            let building = mapcalls::build(state, &bytes[..n]);
-            let reply = building.reply;
-            let said = say_reply(out, reply);
-            let state = building.state;
-            Answered { state, said }
-        }
-    }
+    let Some(n) = fields::read_bytes(field, bytes) else {
+        let said = say_malformed(out);
+        return Answered { state, said };
+    };
+    let building = mapcalls::build(state, &bytes[..n]);
+    let said = say_reply(out, building.reply);
+    let state = building.state;
+    Answered { state, said }
 }
 
 // Whether a line may change which profile there is. Any other leaves the state as it is, so whoever

@@ -46,10 +46,8 @@ pub fn compose(earlier: Mapping, later: Mapping) -> Mapping
     let first = earlier.masks;
     let second = later.masks;
     let mut masks = [0u8; STATES];
-    let mut q: usize = 0;
-    while q < STATES {
-        masks[q] = image(&second, first[q]);
-        q += 1;
+    for (q, mask) in masks.iter_mut().enumerate() {
+        *mask = image(&second, first[q]);
     }
     Mapping { masks }
 }
@@ -67,10 +65,8 @@ pub fn identity(n: u8) -> Mapping
     ensures { result.masks ≡ identityOf n }
 {
     let mut masks = [0u8; STATES];
-    let mut q: usize = 0;
-    while q < STATES {
-        masks[q] = own_set(n, q);
-        q += 1;
+    for (q, mask) in masks.iter_mut().enumerate() {
+        *mask = own_set(n, q);
     }
     Mapping { masks }
 }
@@ -92,10 +88,8 @@ fn letter(targets: &[u32; limits::TARGETS], symbol: u8) -> Mapping
     ensures { result.masks ≡ letter_of targets.now symbol }
 {
     let mut masks = [0u8; STATES];
-    let mut q: usize = 0;
-    while q < STATES {
-        masks[q] = target(targets, q, symbol);
-        q += 1;
+    for (q, mask) in masks.iter_mut().enumerate() {
+        *mask = target(targets, q, symbol);
     }
     Mapping { masks }
 }
@@ -106,9 +100,7 @@ pub fn pack(mapping: Mapping) -> u64
 {
     let masks = mapping.masks;
     let mut packed: u64 = 0;
-    let mut q: usize = STATES;
-    while 0 < q {
-        q -= 1;
+    for q in (0..STATES).rev() {
         packed = packed * MASKS + masks[q] as u64;
     }
     packed
@@ -120,11 +112,9 @@ pub fn unpack(packed: u64) -> Mapping
 {
     let mut masks = [0u8; STATES];
     let mut rest = packed;
-    let mut q: usize = 0;
-    while q < STATES {
-        masks[q] = (rest % MASKS) as u8;
+    for (q, mask) in masks.iter_mut().enumerate() {
+        *mask = (rest % MASKS) as u8;
         rest = rest / MASKS;
-        q += 1;
     }
     Mapping { masks }
 }

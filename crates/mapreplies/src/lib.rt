@@ -6,7 +6,7 @@ ghost use Rattle.text.specs.Writing.{Wrote};
 ghost use Rattle.mapcalls.specs.Calls.{built, mapped, reply_means};
 ghost use Rattle.mapreplies.specs.Replies.{most_answer, reply_text};
 
-use mapcalls::{MapAnswer, MapReply};
+use mapcalls::MapAnswer;
 use mappings::Mapping;
 
 // Room for any answer: sixteen digits and a line feed.
@@ -31,18 +31,17 @@ fn put_mapped(out: &mut [u8], mapping: Mapping) -> usize
 }
 
 // The line of any reply.
-pub fn put_reply(out: &mut [u8], reply: MapReply) -> usize
+pub fn put_reply(out: &mut [u8], reply: MapAnswer) -> usize
     requires { most_answer ≤ length out.old }
     ensures { Wrote out.old 0 (reply_text (reply_means reply)) out.new result }
 {
-    let answer = reply.answer;
-    match answer {
+    match reply {
         MapAnswer::Forgotten => text::put_byte(out, 0, b'\n'),
         MapAnswer::Built(count) => put_built(out, count),
-        MapAnswer::Mapped => put_mapped(out, reply.mapping),
+        MapAnswer::Mapped(mapping) => put_mapped(out, mapping),
         MapAnswer::Yes => text::put_bytes(out, 0, b"yes\n"),
         MapAnswer::No => text::put_bytes(out, 0, b"no\n"),
         MapAnswer::Lacking => text::put_bytes(out, 0, b"no profile\n"),
-        MapAnswer::Refused(number) => answers::put_refused(out, 0, number),
+        MapAnswer::Refused(refusal) => answers::put_refused(out, 0, refusal.number()),
     }
 }

@@ -9,19 +9,13 @@ use lib.ListN.{length, take, replicate}
 use lib.Seq.{take_all}
 use borrow.Author.Tests.{eq-eqb, ne_eqb}
 use Rattle.base.proofs.Options.{none-some}
-use Rattle.base.proofs.Tests.{not_both}
 use Rattle.text.specs.Writing.{Wrote}
-use Rattle.fields.specs.declared.Bytes.{Bytes}
-use Rattle.fields.specs.Bytes.{pairs, is_bytes, parse_bytes, bytes_means, TookOf, Took}
+use Rattle.fields.specs.Bytes.{pairs, is_bytes, parse_bytes, TookOf, Took}
 use Rattle.fields.proofs.Pairs.{pairs_length}
-use Rattle.maptext.specs.declared.MappingField.{MappingField}
-use Rattle.maptext.specs.MappingText.{Read}
+use Rattle.maptext.specs.MappingText.{parse_mapping}
 
-abbrev none_found : List ℕ → MappingField
-none_found masks = record { found = false; mapping = record { masks = masks } }
-
-pub not_sixteen : (w : List ℕ) → (length w ≡ 16 → ⊥) → Read w (none_found (replicate 8 0))
-not_sixteen w ne = record { says = rw (ne_eqb (length w) 16 ne); zeros = λ _. refl }
+pub not_sixteen : (w : List ℕ) → (length w ≡ 16 → ⊥) → none ≡ parse_mapping w
+not_sixteen w ne = rw (ne_eqb (length w) 16 ne)
 
 -- a field of sixteen digits says eight bytes
 pub eight : (w bytes : List ℕ) → length w ≡ 16 → parse_bytes w ≡ some bytes → length bytes ≡ 8
@@ -40,21 +34,21 @@ filled bytes masks n long w =
 module _ (w masks : List ℕ) (long : length w ≡ 16) where
   -- what the field says is known
   by_said : (o : Option (List ℕ)) → parse_bytes w ≡ o → (said : Option ℕ) → TookOf o (replicate 8 0) said masks
-      → (said ≡ none → Read w (none_found masks)) × ((n : ℕ) → said ≡ some n → Read w (record { found = true; mapping = record { masks = masks } }))
+      → (said ≡ none → none ≡ parse_mapping w) × ((n : ℕ) → said ≡ some n → some masks ≡ parse_mapping w)
   by_said none e said t = (
-    (λ _. record { says = rw (eq-eqb (length w) 16 long) (sym e); zeros = λ _. t.1 }),
+    (λ _. rw (eq-eqb (length w) 16 long) (sym e)),
     λ n f. none-some t.0 f,
   )
   by_said (some bytes) e said t = (
     (λ f. none-some f t.1),
-    λ n f. record { says = rw (eq-eqb (length w) 16 long) (ap some masks_are ∙ sym e); zeros = λ z. not_both refl z },
+    λ n f. rw (eq-eqb (length w) 16 long) (ap some masks_are ∙ sym e),
   )
     where
       masks_are : masks ≡ bytes
       masks_are = filled bytes masks t.0 (eight w bytes long e) t.2
 
-  pub read_none : (r : Bytes) → Took w (replicate 8 0) r masks → bytes_means r ≡ none → Read w (none_found masks)
-  read_none r t e = (by_said (parse_bytes w) refl (bytes_means r) t).0 e
+  pub read_none : Took w (replicate 8 0) none masks → none ≡ parse_mapping w
+  read_none t = (by_said (parse_bytes w) refl none t).0 refl
 
-  pub read_some : (r : Bytes) → Took w (replicate 8 0) r masks → (n : ℕ) → bytes_means r ≡ some n → Read w (record { found = true; mapping = record { masks = masks } })
-  read_some r t n e = (by_said (parse_bytes w) refl (bytes_means r) t).1 n e
+  pub read_some : (n : ℕ) → Took w (replicate 8 0) (some n) masks → some masks ≡ parse_mapping w
+  read_some n t = (by_said (parse_bytes w) refl (some n) t).1 n refl

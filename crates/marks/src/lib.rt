@@ -13,12 +13,10 @@ pub fn has_marks(chunk: &[u8]) -> bool
     ensures { result ≡ marked chunk.now }
 {
     let mut found = false;
-    let mut i: usize = 0;
-    while i < chunk.len() {
-        if chunk[i] == IDLE {
+    for byte in chunk {
+        if *byte == IDLE {
             found = true;
         }
-        i += 1;
     }
     found
 }
@@ -29,14 +27,11 @@ pub fn pack(chunk: &[u8], text: &mut [u8]) -> usize
     ensures { Wrote text.old 0 (text_of chunk.now) text.new result }
 {
     let mut n: usize = 0;
-    let mut i: usize = 0;
-    while i < chunk.len() {
-        let b = chunk[i];
+    for &b in chunk {
         if b != IDLE {
             text[n] = b;
             n += 1;
         }
-        i += 1;
     }
     n
 }

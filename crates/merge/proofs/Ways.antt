@@ -14,6 +14,7 @@
 --   check_first, check_second, check_36, check_37, check_none   merge_number
 --   small_both                                             what the checks of both rules bound
 --   merge_allowed, merge_accepted, merge_refused           merge_of
+use Rattle.std.proofs.Common.{Ok, Err}
 use mathlib.Core.Path.{◌≡◌, sym, ap, ◌∙◌}
 use mathlib.Core.List.{List}
 use mathlib.Core.Option.{none, some}
@@ -24,20 +25,18 @@ use lib.Bits.{bit_or}
 use lib.ListN.{get_or}
 use lib.Pow.{shl_exact, pow-lt}
 use borrow.Author.Tests.{eq-eqb, ne_eqb, lt-ltb, le-ltb}
-use Rattle.base.specs.Answers.{answer_number}
+use Rattle.base.specs.declared.Refusal.{Refusal}
+use Rattle.base.specs.Answers.{refusal_number}
 use Rattle.base.specs.Lists.{list_from}
 use Rattle.masks.specs.Masks.{single}
 use Rattle.automaton.specs.declared.Rule.{Rule}
 use Rattle.automaton.specs.Rules.{target_mask}
-use Rattle.base.specs.declared.Answer.{Answer}
 use Rattle.rulecheck.specs.Checking.{rule_number}
 use Rattle.rulecheck.proofs.Laws.{passes}
-use Rattle.ruleformat.specs.Reader.{no_rule}
 use Rattle.merging.specs.declared.Way.{Way}
 use Rattle.merging.specs.declared.Way.TheVariants.{Both, Either, Interleaving}
-use Rattle.base.specs.declared.Answer.TheVariants.{Accepted, Refused}
 use Rattle.merging.specs.Merged.{states_of, pairs, beside, set_of, one_moves, own_targets, targets_of, cell_in, merged_of}
-use Rattle.merging.specs.Merging.{way_of, merge_number, merge_of}
+use Rattle.merging.specs.Merging.{way_of, merge_number, merge_outcome, merge_of}
 use Rattle.merging.specs.Claims.{Mergeable}
 use Rattle.merging.proofs.Conditions.{number_law, refused_exactly}
 use Rattle.merge.specs.mirror.Asked.{Sizes, Masks, Tables}
@@ -169,57 +168,40 @@ module _ (way : Way) (one two : Rule) where
 
 -- ---- `check`
 module _ (way : Way) (one two : Rule) where
-  module _ (x : Answer) (said : answer_number x ≡ rule_number one) where
-    pub check_first : (number : ℕ) → x ≡ Refused number → answer_number (Refused number) ≡ merge_number way one two
-    check_first number e =
-        let is : rule_number one ≡ some number = sym said ∙ ap answer_number e in
-        sym (number_law way one two ∙ rw is)
+  pub check_first : (x : ℕ) → rule_number one ≡ some x → some x ≡ merge_number way one two
+  check_first x e = sym (number_law way one two ∙ rw e)
 
-    first-none : x ≡ Accepted → rule_number one ≡ none
-    first-none e = sym said ∙ ap answer_number e
+  module _ (passed : rule_number one ≡ none) where
+    pub check_second : (x : ℕ) → rule_number two ≡ some x → some x ≡ merge_number way one two
+    check_second x e = sym (number_law way one two ∙ rw (passed, e))
 
-    module _ (passed : x ≡ Accepted) (y : Answer) (told : answer_number y ≡ rule_number two) where
-      pub check_second : (number : ℕ) → y ≡ Refused number → answer_number (Refused number) ≡ merge_number way one two
-      check_second number e =
-          let is : rule_number two ≡ some number = sym told ∙ ap answer_number e in
-          sym (number_law way one two ∙ rw (first-none passed, is))
+    module _ (passed2 : rule_number two ≡ none) where
+      pub small_both : (one.n ≤ 32) × (two.n ≤ 32)
+      small_both = (((passes one).0 passed).states.1, ((passes two).0 passed2).states.1)
 
-      module _ (passed2 : y ≡ Accepted) where
-        second_none : rule_number two ≡ none
-        second_none = sym told ∙ ap answer_number passed2
+      pub check_36 : (one.k ≡ two.k → ⊥) → some 36 ≡ merge_number way one two
+      check_36 d = sym (number_law way one two ∙ rw (passed, passed2, ne_eqb one.k two.k d))
 
-        pub small_both : (one.n ≤ 32) × (two.n ≤ 32)
-        small_both = (((passes one).0 (first-none passed)).states.1, ((passes two).0 second_none).states.1)
+      module _ (same : one.k ≡ two.k) (n : ℕ) (size : n ≡ states_of way one.n two.n) where
+        pub check_37 : 32 < n → some 37 ≡ merge_number way one two
+        check_37 l =
+            sym
+            (number_law way one two
+            ∙ rw (passed, passed2, eq-eqb one.k two.k same, lt-ltb 32 (states_of way one.n two.n) (rw size at l)))
 
-        pub check_36 : (one.k ≡ two.k → ⊥) → answer_number (Refused 36) ≡ merge_number way one two
-        check_36 d = sym (number_law way one two ∙ rw (first-none passed, second_none, ne_eqb one.k two.k d))
-
-        module _ (same : one.k ≡ two.k) (n : ℕ) (size : n ≡ states_of way one.n two.n) where
-          pub check_37 : 32 < n → answer_number (Refused 37) ≡ merge_number way one two
-          check_37 l =
-              sym
-              (number_law way one two
-              ∙ rw (first-none passed, second_none, eq-eqb one.k two.k same, lt-ltb 32 (states_of way one.n two.n) (rw size at l)))
-
-          pub check_none : n ≤ 32 → answer_number Accepted ≡ merge_number way one two
-          check_none l =
-              sym
-              (number_law way one two
-              ∙ rw (first-none passed, second_none, eq-eqb one.k two.k same, le-ltb 32 (states_of way one.n two.n) (rw size at l)))
+        pub check_none : n ≤ 32 → none ≡ merge_number way one two
+        check_none l =
+            sym
+            (number_law way one two
+            ∙ rw (passed, passed2, eq-eqb one.k two.k same, le-ltb 32 (states_of way one.n two.n) (rw size at l)))
 
 -- ---- `merge`
-module _ (way : Way) (one two : Rule) (x : Answer) (said : answer_number x ≡ merge_number way one two) where
-  pub merge_allowed : x ≡ Accepted → Mergeable way one two
-  merge_allowed e = (refused_exactly way one two).taken.0 (sym said ∙ ap answer_number e)
+module _ (way : Way) (one two : Rule) where
+  pub merge_allowed : merge_number way one two ≡ none → Mergeable way one two
+  merge_allowed e = (refused_exactly way one two).taken.0 e
 
-  pub merge_accepted : x ≡ Accepted → (r : Rule) → r ≡ merged_of way one two
-      → record { number = answer_number x; rule = r } ≡ merge_of way one two
-  merge_accepted e r is =
-      let none_there : merge_number way one two ≡ none = sym said ∙ ap answer_number e in
-      rw (none_there, said, none_there, is)
+  pub merge_accepted : merge_number way one two ≡ none → (r : Rule) → r ≡ merged_of way one two → merge_outcome (Ok r) ≡ merge_of way one two
+  merge_accepted e r is = rw (e, is)
 
-  pub merge_refused : (number : ℕ) → x ≡ Refused number → (r : Rule) → r ≡ no_rule
-      → record { number = answer_number x; rule = r } ≡ merge_of way one two
-  merge_refused number e r is =
-      let there : merge_number way one two ≡ some number = sym said ∙ ap answer_number e in
-      rw (there, said, there, is)
+  pub merge_refused : (x : Refusal) → merge_number way one two ≡ some (refusal_number x) → merge_outcome (Err x) ≡ merge_of way one two
+  merge_refused x e = rw e

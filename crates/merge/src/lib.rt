@@ -3,7 +3,7 @@
 #![tactic(auto)]
 
 ghost use Rattle.std.specs.Prelude.{◌≡◌, ◌+◌, ◌*◌, ◌≤◌, ◌<◌};
-ghost use Rattle.base.specs.Answers.{answer_number};
+ghost use Rattle.base.specs.Answers.{result_number};
 ghost use Rattle.base.specs.Lists.{list_from};
 ghost use Rattle.limits.specs.Limits.{most_states, most_symbols, target_cells};
 ghost use Rattle.automaton.specs.Rules.{target_mask};
@@ -13,9 +13,9 @@ ghost use Rattle.merging.specs.Claims.{Mergeable};
 ghost use Rattle.merge.specs.mirror.Asked.{Sizes, Masks, Tables};
 
 use automaton::Rule;
-use base::Answer;
+use base::Refusal;
 use masks::StateNumber;
-use merging::{MergeResult, Way};
+use merging::Way;
 
 // The way that a number names; every number names one.
 pub fn way_of(number: u8) -> Way
@@ -48,15 +48,13 @@ fn pairs(a: u32, b: u32, n1: usize, n2: usize) -> u32
     requires { Masks a b n1 n2 × (1 ≤ n2) × (n1 * n2 ≤ most_states) }
     ensures { result ≡ pairsOf a b n2 }
 {
-    let mut q: usize = 0;
     let mut at: usize = 0;
     let mut out: u32 = 0;
-    while q < n1 {
+    for q in 0..n1 {
         if (a >> q) & 1 == 1 {
             out = out | (b << at);
         }
         at += n2;
-        q += 1;
     }
     out
 }
@@ -172,10 +170,8 @@ fn table_of(
     ensures { result ≡ list_from 0 target_cells (cell_in way n1 n2 t1.now t2.now) }
 {
     let mut table = [0u32; limits::TARGETS];
-    let mut cell: usize = 0;
-    while cell < limits::TARGETS {
-        table[cell] = cell_of(way, n1, n2, t1, t2, cell);
-        cell += 1;
+    for (cell, mask) in table.iter_mut().enumerate() {
+        *mask = cell_of(way, n1, n2, t1, t2, cell);
     }
     table
 }
@@ -203,39 +199,24 @@ fn merged(way: Way, one: Rule, two: Rule) -> Rule
 }
 
 // The first condition that holds: the first rule's, the second's, then 36 and 37.
-fn check(way: Way, one: Rule, two: Rule) -> Answer
-    ensures { answer_number result ≡ merge_number way one two }
+fn check(way: Way, one: Rule, two: Rule) -> Result<(), Refusal>
+    ensures { result_number result ≡ merge_number way one two }
 {
-    let first = rulecheck::check_rule(one);
-    if let Answer::Refused(number) = first {
-        return Answer::Refused(number);
-    }
-    let second = rulecheck::check_rule(two);
-    if let Answer::Refused(number) = second {
-        return Answer::Refused(number);
-    }
+    rulecheck::check_rule(one)?;
+    rulecheck::check_rule(two)?;
     if one.k != two.k {
-        return Answer::Refused(36);
+        return Err(Refusal::OtherSymbols);
     }
     if limits::STATES < states(way, one.n as usize, two.n as usize) {
-        return Answer::Refused(37);
+        return Err(Refusal::TooManyMerged);
     }
-    Answer::Accepted
+    Ok(())
 }
 
-// The two rules made one; or zeros, and the number of the first condition that holds.
-pub fn merge(way: Way, one: Rule, two: Rule) -> MergeResult
+// The two rules made one, or the first condition that holds.
+pub fn merge(way: Way, one: Rule, two: Rule) -> Result<Rule, Refusal>
     ensures { merge_outcome result ≡ merge_of way one two }
 {
-    let answer = check(way, one, two);
-    match answer {
-        Answer::Accepted => {
-            let rule = merged(way, one, two);
-            MergeResult { answer, rule }
-        }
-        Answer::Refused(_) => {
-            let rule = rulefile::no_rule();
-            MergeResult { answer, rule }
-        }
-    }
+    check(way, one, two)?;
+    Ok(merged(way, one, two))
 }

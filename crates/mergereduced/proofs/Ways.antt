@@ -1,5 +1,6 @@
 -- Each way out of the definitions that the functions are held to: the facts that lead there, in the
 -- order in which the code finds them. Assumes nothing.
+use Rattle.std.proofs.Common.{Result, Ok, Err}
 use mathlib.Core.Path.{◌≡◌, refl, sym, ap, ap₂, ◌∙◌}
 use mathlib.Core.Logic.{inl, inr, ⊎_elim}
 use mathlib.Core.Bool.{Bool, true, false, cond, not, ◌&&◌}
@@ -13,7 +14,9 @@ use lib.Dec.{eqb, ltb}
 use lib.ListN.{get_or}
 use lib.Pow.{pow-lt, pow_pos}
 use borrow.Author.Tests.{lt-ltb, le-ltb, ltb-true, ltb-false, eq-eqb, ne_eqb, eqb-true, eqb-false}
-use Rattle.base.specs.Answers.{answer_number}
+use Rattle.base.specs.declared.Refusal.{Refusal}
+use Rattle.base.specs.declared.Refusal.TheVariants.{OtherSymbols, TooManyMerged}
+use Rattle.base.specs.Answers.{refusal_number}
 use Rattle.base.specs.Lists.{list_from}
 use Rattle.base.proofs.Lists.{cell_of_lem, same_list}
 use Rattle.base.proofs.Tests.{by_test, same_truth, not_both, zero_one}
@@ -24,21 +27,18 @@ use Rattle.masks.proofs.Turns.{bit_lt}
 use Rattle.automaton.specs.declared.Rule.{Rule}
 use Rattle.automaton.specs.Rules.{target_mask, WellFormed}
 use Rattle.delegates.specs.mirror.Classes.{first_from}
-use Rattle.base.specs.declared.Answer.{Answer}
 use Rattle.rulecheck.specs.Checking.{rule_number}
 use Rattle.rulecheck.proofs.Laws.{passes}
-use Rattle.ruleformat.specs.Reader.{no_rule}
 use Rattle.calls.specs.Calls.{install_number}
 use Rattle.products.proofs.Numbers.{left_below, right_below}
 use Rattle.merging.specs.declared.Way.{Way}
 use Rattle.merging.specs.declared.Way.TheVariants.{Both, Either, Interleaving}
 use Rattle.merging.specs.Merged.{states_of, pairs, beside, set_of, one_moves, targets_of}
 use Rattle.merging.proofs.Sets.{pairs_law, set_law, set_below, wide}
-use Rattle.merging.specs.Merging.{Merging, merging_by}
+use Rattle.merging.specs.Merging.{Merging, merge_outcome, merging_by}
 use Rattle.merge.specs.mirror.Asked.{Masks}
 use Rattle.merge.proofs.Numbers.{product_most}
-use Rattle.base.specs.declared.Answer.TheVariants.{Accepted, Refused}
-use Rattle.reducing.specs.declared.ReduceResult.{ReduceResult}
+use Rattle.reducing.specs.declared.Reduced.{Reduced}
 use Rattle.reducing.specs.Reduced.{reduced_of}
 use Rattle.reducing.specs.Reducing.{Reducing, reduce_outcome, reducing_by, reduce_of}
 use Rattle.reducing.proofs.Ranks.{rank_mono, rank_onto}
@@ -233,23 +233,26 @@ module _ (way : Way) (n1 n2 : ℕ) (ts us : List ℕ) (q s p : ℕ) where
     arc_by_interleaving e is = rw e is
 
 -- ---- `reduced_or_own`
-module _ (r : Rule) (x : ReduceResult) (said : reduce_outcome x ≡ reduce_of r) where
-  pub own_taken : x.answer ≡ Accepted → x.rule ≡ reduced_or_own r
-  unfolding reduced_or_own
-  own_taken e = of (install_number r) (ap (λ (y : Reducing). y.number) said) (ap (λ (y : Reducing). y.rule) said)
-    where
-      of : (o : Option ℕ) → answer_number x.answer ≡ (reducing_by o (reduced_of r)).number → x.rule ≡ (reducing_by o (reduced_of r)).rule
-          → x.rule ≡ reduced_by o (reduced_of r) r
-      of none n is = is
-      of (some y) n is = let z : none ≡ some y = sym (ap answer_number e) ∙ n in zero_one cc
+module _ (r : Rule) (x : Result Reduced Refusal) (said : reduce_outcome x ≡ reduce_of r) where
+  said_as : {y : Result Reduced Refusal} → x ≡ y → reduce_outcome y ≡ reduce_of r
+  said_as e = sym (ap reduce_outcome e) ∙ said
 
-  pub own_left : (number : ℕ) → x.answer ≡ Refused number → r ≡ reduced_or_own r
+  pub own_taken : (y : Reduced) → x ≡ Ok y → y.rule ≡ reduced_or_own r
   unfolding reduced_or_own
-  own_left number e = of (install_number r) (ap (λ (y : Reducing). y.number) said)
+  own_taken y e = of (install_number r) (ap (λ (z : Reducing). z.number) (said_as e)) (ap (λ (z : Reducing). z.rule) (said_as e))
     where
-      of : (o : Option ℕ) → answer_number x.answer ≡ (reducing_by o (reduced_of r)).number → r ≡ reduced_by o (reduced_of r) r
-      of none n = let z : some number ≡ none = sym (ap answer_number e) ∙ n in zero_one cc
-      of (some y) n = refl
+      of : (o : Option ℕ) → none ≡ (reducing_by o (reduced_of r)).number → y.rule ≡ (reducing_by o (reduced_of r)).rule
+          → y.rule ≡ reduced_by o (reduced_of r) r
+      of none n is = is
+      of (some z) n is = zero_one cc
+
+  pub own_left : (y : Refusal) → x ≡ Err y → r ≡ reduced_or_own r
+  unfolding reduced_or_own
+  own_left y e = of (install_number r) (ap (λ (z : Reducing). z.number) (said_as e))
+    where
+      of : (o : Option ℕ) → some (refusal_number y) ≡ (reducing_by o (reduced_of r)).number → r ≡ reduced_by o (reduced_of r) r
+      of none n = zero_one cc
+      of (some z) n = refl
 
 -- ---- `own_link`, `one_link`, `link`, `linked`
 module _ (n1 n2 : ℕ) (m1 m2 : List ℕ) (q p : ℕ) (r : Bool) where
@@ -449,15 +452,14 @@ module _ (way : Way) (one two : Rule) (m n c : ℕ) (em : m ≡ kept_pairs way o
   pub few_there : Sized one.n two.n → c ≤ 32 → Few way one.n two.n m n c
   few_there z l = record { size = en; most = omega (arith, en, states_most way one.n two.n z); count = ec; fits = l }
 
-  pub paired_many : (out : Merging) → 32 < c → out ≡ merging_by (some 37) no_rule → out ≡ paired_of way one two
+  pub paired_many : 32 < c → merge_outcome (Err TooManyMerged) ≡ paired_of way one two
   unfolding paired_of
-  paired_many out l is =
-      is
-      ∙ sym (ap (λ (t : Bool). merging_by (cond t (some 37) none) (reduced_or_own (trimmed_pairs way one two))) (lt-ltb 32 (pair_count way one two) (rw count-is at l)))
+  paired_many l =
+      sym (ap (λ (t : Bool). merging_by (cond t (some 37) none) (reduced_or_own (trimmed_pairs way one two))) (lt-ltb 32 (pair_count way one two) (rw count-is at l)))
 
   pub paired_made : (made r : Rule) → c ≤ 32
       → made ≡ trimmed_by n one.k (initial_pairs way one two) (final_pairs way one two) (pair_targets way one two) m
-      → r ≡ reduced_or_own made → record { number = none; rule = r } ≡ paired_of way one two
+      → r ≡ reduced_or_own made → merge_outcome (Ok r) ≡ paired_of way one two
   unfolding paired_of
   paired_made made r l is er =
       let same : made ≡ trimmed_pairs way one two =
@@ -466,42 +468,34 @@ module _ (way : Way) (one two : Rule) (m n c : ℕ) (em : m ≡ kept_pairs way o
       ∙ sym (ap (λ (t : Bool). merging_by (cond t (some 37) none) (reduced_or_own (trimmed_pairs way one two))) (le-ltb 32 (pair_count way one two) (rw count-is at l)))
 
 -- ---- `merge_reduced`
-pub reduced_good : (r a : Rule) (x : Answer) → a ≡ reduced_or_own r → answer_number x ≡ rule_number r → x ≡ Accepted → WellFormed a
-reduced_good r a x is said passed = rw is (instead r ((passes r).0 (sym said ∙ ap answer_number passed))).good
+pub reduced_good : (r a : Rule) → a ≡ reduced_or_own r → rule_number r ≡ none → WellFormed a
+reduced_good r a is passed = rw is (instead r ((passes r).0 passed)).good
 
-module _ (way : Way) (one two : Rule) (x : Answer) (said : answer_number x ≡ rule_number one) where
+module _ (way : Way) (one two : Rule) where
   by_number : (o : Option ℕ) (out : Merging) → merge_reduced_number way one two ≡ o → out ≡ merging_by o (merge_reduced_rule way one two)
       → out ≡ merge_reduced_of way one two
   by_number o out e is = is ∙ sym (ap (λ (y : Option ℕ). merging_by y (merge_reduced_rule way one two)) e)
 
-  pub reduced_first : (number : ℕ) (out : Merging) → x ≡ Refused number → out ≡ merging_by (some number) no_rule → out ≡ merge_reduced_of way one two
-  reduced_first number out e is =
-      let there : rule_number one ≡ some number = sym said ∙ ap answer_number e in
-      by_number (some number) out (number_law way one two ∙ rw there) is
+  by_refusal : (e : Refusal) → merge_reduced_number way one two ≡ some (refusal_number e) → merge_outcome (Err e) ≡ merge_reduced_of way one two
+  by_refusal e is = by_number (some (refusal_number e)) (merge_outcome (Err e)) is refl
 
-  module _ (passed : x ≡ Accepted) (y : Answer) (told : answer_number y ≡ rule_number two) where
-    first-none : rule_number one ≡ none
-    first-none = sym said ∙ ap answer_number passed
+  pub reduced_first : (e : Refusal) → rule_number one ≡ some (refusal_number e) → merge_outcome (Err e) ≡ merge_reduced_of way one two
+  reduced_first e is = by_refusal e (number_law way one two ∙ rw is)
 
-    pub reduced_second : (number : ℕ) (out : Merging) → y ≡ Refused number → out ≡ merging_by (some number) no_rule → out ≡ merge_reduced_of way one two
-    reduced_second number out e is =
-        let there : rule_number two ≡ some number = sym told ∙ ap answer_number e in
-        by_number (some number) out (number_law way one two ∙ rw (first-none, there)) is
+  module _ (passed : rule_number one ≡ none) where
+    pub reduced_second : (e : Refusal) → rule_number two ≡ some (refusal_number e) → merge_outcome (Err e) ≡ merge_reduced_of way one two
+    reduced_second e is = by_refusal e (number_law way one two ∙ rw (passed, is))
 
-    module _ (passed2 : y ≡ Accepted) where
-      second_none : rule_number two ≡ none
-      second_none = sym told ∙ ap answer_number passed2
-
-      pub reduced_36 : (out : Merging) → (one.k ≡ two.k → ⊥) → out ≡ merging_by (some 36) no_rule → out ≡ merge_reduced_of way one two
-      reduced_36 out d is =
-          by_number (some 36) out (number_law way one two ∙ rw (first-none, second_none, ne_eqb one.k two.k d)) is
+    module _ (passed2 : rule_number two ≡ none) where
+      pub reduced_36 : (one.k ≡ two.k → ⊥) → merge_outcome (Err OtherSymbols) ≡ merge_reduced_of way one two
+      reduced_36 d = by_refusal OtherSymbols (number_law way one two ∙ rw (passed, passed2, ne_eqb one.k two.k d))
 
       pub reduced_made : one.k ≡ two.k → (a b : Rule) → a ≡ reduced_or_own one → b ≡ reduced_or_own two → (out : Merging) → out ≡ paired_of way a b
           → out ≡ merge_reduced_of way one two
       unfolding paired_of
       reduced_made same a b ea eb out is =
           let last : Option ℕ = cond (ltb 32 (pair_count way (reduced_or_own one) (reduced_or_own two))) (some 37) none in
-          by_number last out (number_law way one two ∙ rw (first-none, second_none, eq-eqb one.k two.k same))
+          by_number last out (number_law way one two ∙ rw (passed, passed2, eq-eqb one.k two.k same))
           (is ∙ ap₂ (λ (u v : Rule). merging_by (cond (ltb 32 (pair_count way u v)) (some 37) none) (reduced_or_own (trimmed_pairs way u v))) ea eb)
 
 pub paired_low : (way : Way) (n1 n2 n : ℕ) → Sized n1 n2 → n ≡ states_of way n1 n2 → n ≤ 1024

@@ -3,7 +3,6 @@
 #![tactic(auto)]
 
 ghost use Rattle.std.specs.Prelude.{◌≡◌, ◌+◌, ◌*◌, ◌^◌, ◌≤◌, ◌<◌, max};
-ghost use Rattle.std.proofs.Math.Option.{some};
 ghost use Rattle.base.specs.Lists.{list_from};
 ghost use Rattle.limits.specs.Limits.{most_states, most_symbols, target_cells};
 ghost use Rattle.std.specs.Int.Bits.{bit_and, bit_or};
@@ -13,17 +12,16 @@ ghost use Rattle.automaton.specs.Rules.{WellFormed};
 ghost use Rattle.delegates.specs.mirror.Classes.{first_from};
 ghost use Rattle.merging.specs.declared.Way.TheVariants.{Both, Either, Interleaving};
 ghost use Rattle.merging.specs.Merged.{states_of, pairs, beside, set_of, targets_of};
-ghost use Rattle.ruleformat.specs.Reader.{no_rule};
-ghost use Rattle.merging.specs.Merging.{merge_outcome, merging_by};
+ghost use Rattle.merging.specs.Merging.{merge_outcome};
 ghost use Rattle.merge.specs.mirror.Asked.{Masks};
 ghost use Rattle.mergereduce.specs.Trimmed.{spread, nth as nth_of, trimmed_by};
 ghost use Rattle.mergereduce.specs.MergeReduced.{reduced_or_own, initial_pairs, final_pairs, pair_targets, kept_pairs, merge_reduced_of};
 ghost use Rattle.mergereduced.specs.mirror.Asked.{most_pairs, set_in, symbols_to, symbols_of, symbols_at, link_in, link_by, fresh_in, Sized, Tabled, ArcAsked, Few, Listed, places_in, cell_in, paired_of};
 
 use automaton::Rule;
-use base::Answer;
+use base::Refusal;
 use masks::StateNumber;
-use merging::{MergeResult, Way};
+use merging::Way;
 
 // The most pairs of a state of each rule.
 pub const PAIRS: usize = limits::STATES * limits::STATES;
@@ -155,12 +153,10 @@ fn symbols_to(t: &[u32; limits::TARGETS], x: usize, y: usize) -> u16
     ensures { result ≡ symbols_to t.now x y }
 {
     let mut out: u16 = 0;
-    let mut s: usize = 0;
-    while s < limits::SYMBOLS {
+    for s in 0..limits::SYMBOLS {
         if masks::member(merge::mask_at(t, x, s), StateNumber(y as u8)) {
             out = out | masks::only_symbol(s);
         }
-        s += 1;
     }
     out
 }
@@ -170,10 +166,8 @@ fn symbols_of(t: &[u32; limits::TARGETS]) -> [u16; PAIRS]
     ensures { result ≡ symbols_of t.now }
 {
     let mut out = [0u16; PAIRS];
-    let mut cell: usize = 0;
-    while cell < PAIRS {
-        out[cell] = symbols_to(t, cell / limits::STATES, cell % limits::STATES);
-        cell += 1;
+    for (cell, symbols) in out.iter_mut().enumerate() {
+        *symbols = symbols_to(t, cell / limits::STATES, cell % limits::STATES);
     }
     out
 }
@@ -289,14 +283,12 @@ fn with_links(
 {
     let n = merge::states(way, n1, n2);
     let mut out = set;
-    let mut p: usize = 0;
-    while p < n {
+    for p in 0..n {
         if out[p] != 1 {
             if linked(forth, way, n1, n2, m1, m2, q, p) {
                 out[p] = 1;
             }
         }
-        p += 1;
     }
     out
 }
@@ -306,16 +298,14 @@ fn fresh(set: &[u8; PAIRS], done: &[u8; PAIRS], n: usize) -> usize
     requires { n ≤ most_pairs }
     ensures { result ≡ first_from (fresh_in (set_in set.now) (set_in done.now)) 0 n }
 {
-    let mut q: usize = 0;
-    while q < n {
+    for q in 0..n {
         if set[q] == 1 {
             if done[q] != 1 {
                 return q;
             }
         }
-        q += 1;
     }
-    q
+    n
 }
 
 // How many numbers below n are in the set.
@@ -324,12 +314,10 @@ fn count(set: &[u8; PAIRS], n: usize) -> usize
     ensures { result ≡ rank (set_in set.now) n }
 {
     let mut out: usize = 0;
-    let mut q: usize = 0;
-    while q < n {
+    for q in 0..n {
         if set[q] == 1 {
             out += 1;
         }
-        q += 1;
     }
     out
 }
@@ -379,10 +367,8 @@ fn start_of(way: Way, n1: usize, n2: usize, a: u32, b: u32) -> [u8; PAIRS]
     ensures { set_in result ≡ set_of way n1 n2 a b }
 {
     let mut out = [0u8; PAIRS];
-    let mut q: usize = 0;
-    while q < PAIRS {
-        out[q] = start_cell(way, n1, n2, a, b, q);
-        q += 1;
+    for (q, member) in out.iter_mut().enumerate() {
+        *member = start_cell(way, n1, n2, a, b, q);
     }
     out
 }
@@ -405,10 +391,8 @@ fn both_of(a: &[u8; PAIRS], b: &[u8; PAIRS]) -> [u8; PAIRS]
     ensures { set_in result ≡ bit_and (set_in a.now) (set_in b.now) }
 {
     let mut out = [0u8; PAIRS];
-    let mut q: usize = 0;
-    while q < PAIRS {
-        out[q] = both_cell(a, b, q);
-        q += 1;
+    for (q, member) in out.iter_mut().enumerate() {
+        *member = both_cell(a, b, q);
     }
     out
 }
@@ -419,28 +403,24 @@ fn nth(set: &[u8; PAIRS], n: usize, p: usize) -> usize
     ensures { result ≡ nth_of n (set_in set.now) p }
 {
     let mut below: usize = 0;
-    let mut q: usize = 0;
-    while q < n {
+    for q in 0..n {
         if set[q] == 1 {
             if below == p {
                 return q;
             }
             below += 1;
         }
-        q += 1;
     }
-    q
+    n
 }
 
 // The rule reduced, or the rule itself where that is refused.
 fn reduced_or_own(rule: Rule) -> Rule
     ensures { result ≡ reduced_or_own rule }
 {
-    let result = reduce::reduce(rule);
-    let answer = result.answer;
-    match answer {
-        Answer::Accepted => result.rule,
-        Answer::Refused(_) => rule,
+    match reduce::reduce(rule) {
+        Ok(reduced) => reduced.rule,
+        Err(_) => rule,
     }
 }
 
@@ -468,10 +448,8 @@ fn listed(set: &[u8; PAIRS], n: usize) -> [usize; limits::STATES]
     ensures { result ≡ list_from 0 most_states (nth_of n (set_in set.now)) }
 {
     let mut out = [0usize; limits::STATES];
-    let mut p: usize = 0;
-    while p < limits::STATES {
-        out[p] = nth(set, n, p);
-        p += 1;
+    for (p, pair) in out.iter_mut().enumerate() {
+        *pair = nth(set, n, p);
     }
     out
 }
@@ -490,12 +468,10 @@ fn set_mask(
     ensures { result ≡ places_in list.now c (set_of way n1 n2 a b) }
 {
     let mut out: u32 = 0;
-    let mut p: usize = 0;
-    while p < c {
+    for p in 0..c {
         if in_set(way, n1, n2, a, b, list[p]) {
             out = masks::union(out, masks::singleton(StateNumber(p as u8)));
         }
-        p += 1;
     }
     out
 }
@@ -516,12 +492,10 @@ fn arc_mask(
     ensures { result ≡ places_in list.now c (targets_of way n1 n2 t1.now t2.now q s) }
 {
     let mut out: u32 = 0;
-    let mut p: usize = 0;
-    while p < c {
+    for p in 0..c {
         if arc(way, n1, n2, t1, t2, q, s, list[p]) {
             out = masks::union(out, masks::singleton(StateNumber(p as u8)));
         }
-        p += 1;
     }
     out
 }
@@ -571,10 +545,8 @@ fn table_of(
     ensures { result ≡ list_from 0 target_cells (cell_in (targets_of way n1 n2 t1.now t2.now) list.now c) }
 {
     let mut table = [0u32; limits::TARGETS];
-    let mut cell: usize = 0;
-    while cell < limits::TARGETS {
-        table[cell] = cell_of(way, n1, n2, t1, t2, list, c, cell);
-        cell += 1;
+    for (cell, mask) in table.iter_mut().enumerate() {
+        *mask = cell_of(way, n1, n2, t1, t2, list, c, cell);
     }
     table
 }
@@ -610,20 +582,9 @@ fn trimmed(way: Way, one: Rule, two: Rule, set: &[u8; PAIRS], n: usize, c: usize
     }
 }
 
-// Refused with that number.
-fn refuse(number: u8) -> MergeResult
-    ensures { merge_outcome result ≡ merging_by (some number) no_rule }
-{
-    let rule = rulefile::no_rule();
-    MergeResult {
-        answer: Answer::Refused(number),
-        rule,
-    }
-}
-
 // The pairs of two rules that are reached and live, made a rule and reduced; refused where they are
 // more than 32.
-fn paired(way: Way, one: Rule, two: Rule) -> MergeResult
+fn paired(way: Way, one: Rule, two: Rule) -> Result<Rule, Refusal>
     requires { WellFormed one × WellFormed two }
     ensures { merge_outcome result ≡ paired_of way one two }
 {
@@ -631,31 +592,21 @@ fn paired(way: Way, one: Rule, two: Rule) -> MergeResult
     let n = merge::states(way, one.n as usize, two.n as usize);
     let c = count(&set, n);
     if limits::STATES < c {
-        return refuse(37);
+        return Err(Refusal::TooManyMerged);
     }
     let made = trimmed(way, one, two, &set, n, c);
-    let rule = reduced_or_own(made);
-    MergeResult {
-        answer: Answer::Accepted,
-        rule,
-    }
+    Ok(reduced_or_own(made))
 }
 
-// The two rules, reduced, made one of the pairs that are reached and live, and reduced; or zeros,
-// and the number of the first condition that holds.
-pub fn merge_reduced(way: Way, one: Rule, two: Rule) -> MergeResult
+// The two rules, reduced, made one of the pairs that are reached and live, and reduced; or the first
+// condition that holds.
+pub fn merge_reduced(way: Way, one: Rule, two: Rule) -> Result<Rule, Refusal>
     ensures { merge_outcome result ≡ merge_reduced_of way one two }
 {
-    let first = rulecheck::check_rule(one);
-    if let Answer::Refused(number) = first {
-        return refuse(number);
-    }
-    let second = rulecheck::check_rule(two);
-    if let Answer::Refused(number) = second {
-        return refuse(number);
-    }
+    rulecheck::check_rule(one)?;
+    rulecheck::check_rule(two)?;
     if one.k != two.k {
-        return refuse(36);
+        return Err(Refusal::OtherSymbols);
     }
     let a = reduced_or_own(one);
     let b = reduced_or_own(two);

@@ -4,6 +4,8 @@
 --   from_start, from_word, ..   a byte more, by what was kept
 --   second_put, first_put, ..   the line has ended
 --   all_on, all_over            bytes, one after the other
+use Rattle.std.proofs.Common as code
+use Rattle.std.proofs.Common.{Some, None}
 use mathlib.Core.Path.{◌≡◌, refl, sym, ap, ◌∙◌, subst}
 use mathlib.Core.Bool.{true, cond}
 use mathlib.Core.List.{List, [], ◌∷◌}
@@ -15,12 +17,10 @@ use borrow.Author.Tests.{eq-eqb, ne_eqb, eqb-true, eqb-false, lt-ltb, le-ltb, lt
 use lib.Dec.{eqb, ltb}
 use lib.ListN.{length, get_or, take, drop, length-drop, drop_of_length-le}
 use lib.Seq.{take_all, drop-cons, length-take-le}
+use Rattle.base.specs.Options.{option_of}
 use Rattle.base.proofs.Tests.{by_test}
 use Rattle.text.specs.Writing.{Wrote}
 use Rattle.answers.specs.Answers.{malformed_text}
-use Rattle.fields.specs.declared.Bytes.{Bytes}
-use Rattle.fields.specs.declared.Bytes.TheVariants.{Put, Malformed}
-use Rattle.fields.specs.Bytes.{bytes_means}
 use Rattle.hexfields.specs.declared.Part.{Part}
 use Rattle.hexfields.specs.declared.Part.TheVariants as part
 use Rattle.hexfields.specs.Fields.{says_now}
@@ -98,12 +98,12 @@ module _ (verb : Verb) (at c l : ℕ) (letter : l ≡ get_or (verb_word verb) at
     word_ends h = rw (is_letter, le-ltb (at + 1) (length (verb_word verb)) (omega arith))
 
 -- ---- `end_first`
-module _ (verb : Verb) (p : Part) (x : Bytes) (says : bytes_means x ≡ end_of p) where
-  pub first_ends : (n : ℕ) → x ≡ Put n → scan.Second verb n part.Nothing ≡ second_after verb (end_of p)
-  first_ends n e = ap (second_after verb) (sym (ap bytes_means e) ∙ says)
+module _ (verb : Verb) (p : Part) (x : code.Option ℕ) (says : option_of x ≡ end_of p) where
+  pub first_ends : (n : ℕ) → x ≡ Some n → scan.Second verb n part.Nothing ≡ second_after verb (end_of p)
+  first_ends n e = ap (second_after verb) (sym (ap option_of e) ∙ says)
 
-  pub first_stray : x ≡ Malformed → scan.Stray ≡ second_after verb (end_of p)
-  first_stray e = ap (second_after verb) (sym (ap bytes_means e) ∙ says)
+  pub first_stray : x ≡ None → scan.Stray ≡ second_after verb (end_of p)
+  first_stray e = ap (second_after verb) (sym (ap option_of e) ∙ says)
 
 -- ---- a byte more
 module _ (one two : List ℕ) where
@@ -235,35 +235,35 @@ pub scans_on : (s : Scanned) (c : ℕ) → ScansOn s.one s.two s.scan c (scan_of
 scans_on s c = scans_by s.scan s.one s.two c
 
 -- ---- the line has ended
-module _ (verb : Verb) (n : ℕ) (p : Part) (one two before after : List ℕ) (at end : ℕ) (x : Bytes) (says : bytes_means x ≡ end_of p) where
+module _ (verb : Verb) (n : ℕ) (p : Part) (one two before after : List ℕ) (at end : ℕ) (x : code.Option ℕ) (says : option_of x ≡ end_of p) where
   abbrev held : Meaning
   held = second_held verb (take n one) (end_of p) two
 
-  pub second_malformed : x ≡ Malformed → Wrote before at malformed_text after end → Wrote before at (response_text (response_in held)) after end
+  pub second_malformed : x ≡ None → Wrote before at malformed_text after end → Wrote before at (response_text (response_in held)) after end
   second_malformed e w =
-      let none_there : end_of p ≡ none = sym says ∙ ap bytes_means e in
+      let none_there : end_of p ≡ none = sym says ∙ ap option_of e in
       subst (λ (o : Option ℕ). Wrote before at (response_text (response_in (second_held verb (take n one) o two))) after end) (sym none_there) w
 
-  pub second_put : (m : ℕ) → x ≡ Put m → (k l : ℕ) → k ≡ min n (length one) → l ≡ min m (length two)
+  pub second_put : (m : ℕ) → x ≡ Some m → (k l : ℕ) → k ≡ min n (length one) → l ≡ min m (length two)
       → Wrote before at (response_text (response_in (pair_by verb (take k one) (take l two)))) after end → Wrote before at (response_text (response_in held)) after end
   second_put m e k l ek el w =
-      let there : end_of p ≡ some m = sym says ∙ ap bytes_means e in
+      let there : end_of p ≡ some m = sym says ∙ ap option_of e in
       let first : take k one ≡ take n one = ap (λ (i : ℕ). take i one) ek ∙ take_most n one in
       let second : take l two ≡ take m two = ap (λ (i : ℕ). take i two) el ∙ take_most m two in
       subst (λ (o : Option ℕ). Wrote before at (response_text (response_in (second_held verb (take n one) o two))) after end) (sym there)
       (subst (λ (f : List ℕ). Wrote before at (response_text (response_in (pair_by verb f (take m two)))) after end) first
       (subst (λ (g : List ℕ). Wrote before at (response_text (response_in (pair_by verb (take k one) g))) after end) second w))
 
-module _ (verb : Verb) (p : Part) (one before after : List ℕ) (at end : ℕ) (x : Bytes) (says : bytes_means x ≡ end_of p) where
-  pub first_malformed : x ≡ Malformed → Wrote before at malformed_text after end → Wrote before at (response_text (response_in (first_held verb (end_of p) one))) after end
+module _ (verb : Verb) (p : Part) (one before after : List ℕ) (at end : ℕ) (x : code.Option ℕ) (says : option_of x ≡ end_of p) where
+  pub first_malformed : x ≡ None → Wrote before at malformed_text after end → Wrote before at (response_text (response_in (first_held verb (end_of p) one))) after end
   first_malformed e w =
-      let none_there : end_of p ≡ none = sym says ∙ ap bytes_means e in
+      let none_there : end_of p ≡ none = sym says ∙ ap option_of e in
       subst (λ (o : Option ℕ). Wrote before at (response_text (response_in (first_held verb o one))) after end) (sym none_there) w
 
-  pub first_put : (n : ℕ) → x ≡ Put n → (k : ℕ) → k ≡ min n (length one)
+  pub first_put : (n : ℕ) → x ≡ Some n → (k : ℕ) → k ≡ min n (length one)
       → Wrote before at (response_text (response_in (alone_by verb (take k one)))) after end → Wrote before at (response_text (response_in (first_held verb (end_of p) one))) after end
   first_put n e k ek w =
-      let there : end_of p ≡ some n = sym says ∙ ap bytes_means e in
+      let there : end_of p ≡ some n = sym says ∙ ap option_of e in
       let first : take k one ≡ take n one = ap (λ (i : ℕ). take i one) ek ∙ take_most n one in
       subst (λ (o : Option ℕ). Wrote before at (response_text (response_in (first_held verb o one))) after end) (sym there)
       (subst (λ (f : List ℕ). Wrote before at (response_text (response_in (alone_by verb f))) after end) first w)

@@ -8,7 +8,6 @@ ghost use Rattle.mergetext.specs.Answers.{most_answer, response_in, response_tex
 ghost use Rattle.hexfields.specs.Reading.{end_of};
 ghost use Rattle.mergescan.specs.Scanning.{begin_of, word_after, second_after, scanned, scan_of, second_held, first_held, held_meaning, scan_all, is_start};
 
-use fields::Bytes;
 use hexfields::Part;
 use mergetext::Verb;
 use merging::Way;
@@ -118,10 +117,9 @@ fn word_on(verb: Verb, at: usize, c: u8) -> Scan
 fn end_first(verb: Verb, part: Part) -> Scan
     ensures { result ≡ second_after verb (end_of part) }
 {
-    let said = hexfields::end(part);
-    match said {
-        Bytes::Put(n) => Scan::Second(verb, n, Part::Nothing),
-        Bytes::Malformed => Scan::Stray,
+    match hexfields::end(part) {
+        Some(n) => Scan::Second(verb, n, Part::Nothing),
+        None => Scan::Stray,
     }
 }
 
@@ -148,10 +146,8 @@ pub fn scan_bytes(one: &mut [u8], two: &mut [u8], scan: Scan, bytes: &[u8]) -> S
     ensures { scanned result one.new two.new ≡ scan_all (scanned scan one.old two.old) bytes.now }
 {
     let mut scan = scan;
-    let mut i: usize = 0;
-    while i < bytes.len() {
-        scan = scan_on(one, two, scan, bytes[i]);
-        i += 1;
+    for byte in bytes {
+        scan = scan_on(one, two, scan, *byte);
     }
     scan
 }
@@ -182,14 +178,13 @@ fn put_second(
     requires { at + most_answer ≤ length out.old }
     ensures { Wrote out.old at (response_text (response_in (second_held verb (take n one.now) (end_of part) two.now))) out.new result }
 {
-    let said = hexfields::end(part);
-    match said {
-        Bytes::Put(m) => {
-            let first = base::at_most(n, one.len());
-            let second = base::at_most(m, two.len());
+    match hexfields::end(part) {
+        Some(m) => {
+            let first = n.min(one.len());
+            let second = m.min(two.len());
             mergetext::put_pair(verb, &one[..first], &two[..second], out, at)
         }
-        Bytes::Malformed => answers::put_malformed(out, at),
+        None => answers::put_malformed(out, at),
     }
 }
 
@@ -198,13 +193,12 @@ fn put_first(verb: Verb, part: Part, one: &[u8], out: &mut [u8], at: usize) -> u
     requires { at + most_answer ≤ length out.old }
     ensures { Wrote out.old at (response_text (response_in (first_held verb (end_of part) one.now))) out.new result }
 {
-    let said = hexfields::end(part);
-    match said {
-        Bytes::Put(n) => {
-            let first = base::at_most(n, one.len());
+    match hexfields::end(part) {
+        Some(n) => {
+            let first = n.min(one.len());
             mergetext::put_alone(verb, &one[..first], out, at)
         }
-        Bytes::Malformed => answers::put_malformed(out, at),
+        None => answers::put_malformed(out, at),
     }
 }
 

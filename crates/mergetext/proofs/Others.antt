@@ -9,56 +9,48 @@
 --   reduced_accepted, reduced_refused                 by the number
 --   fits                                              the most bytes of an answer
 --   end_room, text_written                            the line of a text
---   text_within, text_prefix, text_few                the text of a comparison
---   apart_text, same_text, refused_text_lem           its line
---   told-compared-.., told-reduced-..                 what is written for two files, and for one
---   by_pair, by_alone                                 and for a word
+--   compared_answered                                 what comparing two files is answered
+--   made_passes                                       the rule that reducing left passes its check
+--   by_pair, by_alone                                 what a word is answered
+use Rattle.std.proofs.Common as code
+use Rattle.std.proofs.Common.{Result, Ok}
 use mathlib.Core.Path.{◌≡◌, refl, sym, ap, ap₂, ◌∙◌, subst}
 use mathlib.Core.Logic.{◌↔◌}
 use mathlib.Core.List.{List, [], ◌∷◌, ◌++◌}
 use mathlib.Core.Option.{Option, none, some}
-use Prim.Native.Nat.{ℕ, ◌+◌, ◌≤◌, ◌<◌, min}
+use Prim.Native.Nat.{ℕ, ◌+◌, ◌≤◌, ◌<◌}
 use native.Mathlib.Omega.{arith}
-use borrow.Author.Tests.{ltb-true, ltb-false}
-use lib.Dec.{ltb}
-use lib.ListN.{length, take, length-append}
-use lib.Seq.{take_all, length-take-le}
-use Rattle.base.specs.Answers.{answer_number}
-use Rattle.base.proofs.Tests.{zero_one, by_test}
+use lib.ListN.{length, length-append}
+use Rattle.base.specs.declared.Refusal.{Refusal}
+use Rattle.base.proofs.Tests.{zero_one}
 use Rattle.text.specs.Writing.{Wrote}
 use Rattle.text.proofs.Rooms.{exact, most, left, more, two}
-use Rattle.answers.specs.Answers.{refused_text}
 use Rattle.answers.proofs.Lengths.{refused_short}
-use Rattle.fields.specs.Claims.{digits_of, field_of}
+use Rattle.fields.specs.Claims.{field_of}
 use Rattle.automaton.specs.declared.Rule.{Rule}
 use Rattle.rulecheck.specs.Checking.{rule_number}
 use Rattle.rulecheck.proofs.Laws.{passes}
-use Rattle.base.specs.declared.Answer.TheVariants as reading
-use Rattle.ruleformat.specs.declared.ReadResult.{ReadResult}
 use Rattle.ruleformat.specs.Refusals.{refusal}
-use Rattle.ruleformat.specs.Reader.{Reading, rule_of, read_outcome, read_of}
+use Rattle.ruleformat.specs.Reader.{rule_of}
 use Rattle.ruleformat.specs.Writing.{file_of}
 use Rattle.ruleformat.proofs.Claims as rulefile
 use Rattle.rulewriter.proofs.Claims as writer
 use Rattle.sampletext.proofs.Lines.{field_most}
 use Rattle.compare.specs.declared.Which.{Which}
 use Rattle.compare.specs.declared.Which.TheVariants.{First, Second}
-use Rattle.compare.specs.declared.CompareAnswer.{CompareAnswer}
-use Rattle.compare.specs.declared.CompareAnswer.TheVariants as answer
-use Rattle.compare.specs.declared.CompareResult.{CompareResult}
+use Rattle.compare.specs.declared.Apart.{Apart}
 use Rattle.compare.specs.Compared as compared
 use Rattle.compare.specs.Compared.{Comparison}
-use Rattle.compare.specs.Values.{answer_means, compare_outcome, outcome_of, comparison_by, comparison_in}
+use Rattle.compare.specs.Values.{compare_outcome, outcome_of, comparison_in}
 use Rattle.compare.specs.Search.{compare_of}
 use Rattle.compare.proofs.Claims as compare
-use Rattle.reducing.specs.declared.ReduceResult.{ReduceResult}
+use Rattle.reducing.specs.declared.Reduced.{Reduced}
 use Rattle.reducing.specs.Reducing.{Reducing, reduce_outcome, reduce_of}
 use Rattle.reducing.proofs.Claims as reducing
 use Rattle.mergetext.specs.declared.Verb.{Verb}
 use Rattle.mergetext.specs.Lines.{Meaning, merges, compares, reduces, malformed, pair_by, alone_by}
 use Rattle.mergetext.specs.Answers.{Response, refused, file, apart, same, response_by, after_read, compared_by, compared_files, reduced_by, reduced_file, response_in, apart_word, response_text}
 use Rattle.mergetext.proofs.Files.{response_most, merged_fits}
-use Rattle.mergetext.proofs.Ways.{number_in}
 
 -- ---- each answer comes from its comparison or number alone
 apart_by : (a : Comparison) (which : Which) (w : List ℕ) → compared_by a ≡ apart which w → a ≡ compared.apart which w
@@ -197,17 +189,6 @@ module _ (word w before mid : List ℕ) (at a : ℕ) (short : length word ≤ 13
     text_written after end feed =
         (two 13 1023 (omega arith) (most 13 short wrote) (λ h. two 1022 1 h (most 1022 (field_most w few) field) (λ l. exact feed))).0
 
--- a text that a result carries, of which so many bytes are taken
-module _ (n l : ℕ) (t : List ℕ) (is : n ≡ min l 511) (size : length t ≡ 511) where
-  pub text_within : n ≤ length t
-  text_within = omega arith
-
-  pub text_prefix : n ≡ length (take n t)
-  text_prefix = sym (length-take-le n t text_within)
-
-  pub text_few : length (take n t) ≤ 511
-  text_few = omega (arith, text_prefix)
-
 -- ---- what is written
 module _ (before after : List ℕ) (at end : ℕ) where
   abbrev Says : Response → Type 0
@@ -219,74 +200,6 @@ module _ (before after : List ℕ) (at end : ℕ) where
   pub by_which : (w : List ℕ) (which one : Which) → which ≡ one → Says (apart one w) → Says (apart which w)
   by_which w which one e s = by (ap (λ (x : Which). apart x w) e) s
 
-  -- ---- the line of a comparison
-  module _ (r : CompareResult) where
-    by_answer : {a : CompareAnswer} → r.answer ≡ a → Says (compared_by (comparison_by (answer_means a) (take r.length r.text)))
-        → Says (compared_by (comparison_in (compare_outcome r)))
-    by_answer e s = by (ap (λ (x : CompareAnswer). compared_by (comparison_by (answer_means x) (take r.length r.text))) e) s
-
-    pub apart_text : (which : Which) → r.answer ≡ answer.Apart which → (n : ℕ) → n ≡ min r.length 511 → length r.text ≡ 511
-        → Says (apart which (take n r.text)) → Says (compared_by (comparison_in (compare_outcome r)))
-    apart_text which e n is size s = by_answer e (subst (λ (w : List ℕ). Says (apart which w)) (first_of n is size) s)
-      where
-        first_of : (n : ℕ) → n ≡ min r.length 511 → length r.text ≡ 511 → take n r.text ≡ take r.length r.text
-        first_of n is size =
-            by_test (ltb 511 r.length)
-            (λ t.
-            let h = ltb-true 511 r.length t in
-            take_all n r.text (omega arith) ∙ sym (take_all r.length r.text (omega arith)))
-            (λ t. let h = ltb-false 511 r.length t in let z : n ≡ r.length = omega arith in ap (λ (x : ℕ). take x r.text) z)
-
-    pub same_text : r.answer ≡ answer.Same → Says same → Says (compared_by (comparison_in (compare_outcome r)))
-    same_text e s = by_answer e s
-
-    pub refused_text_lem : (x : ℕ) → r.answer ≡ answer.Refused x → Wrote before at (refused_text x) after end → Says (compared_by (comparison_in (compare_outcome r)))
-    refused_text_lem x e s = by_answer e s
-
-  -- ---- two files compared
-  module _ (f g : List ℕ) (x : ReadResult) (reads : read_outcome x ≡ read_of f) where
-    pub told_compared_first : (n : ℕ) → x.answer ≡ reading.Refused n → Wrote before at (refused_text n) after end → Says (compared_files f g)
-    told_compared_first n e w = by (compared_first f g n (number_in f x reads ∙ ap answer_number e)) w
-
-    module _ (accepted : x.answer ≡ reading.Accepted) (y : ReadResult) (reads2 : read_outcome y ≡ read_of g) where
-      first-none : refusal f ≡ none
-      first-none = number_in f x reads ∙ ap answer_number accepted
-
-      pub told_compared_second : (n : ℕ) → y.answer ≡ reading.Refused n → Wrote before at (refused_text n) after end → Says (compared_files f g)
-      told_compared_second n e w = by (compared_second f g first-none n (number_in g y reads2 ∙ ap answer_number e)) w
-
-      pub told_compared : y.answer ≡ reading.Accepted → (z : CompareResult) → compare_outcome z ≡ outcome_of (compare_of x.rule y.rule)
-          → Says (compared_by (comparison_in (compare_outcome z))) → Says (compared_files f g)
-      told_compared accepted2 z is w =
-          let second_none = number_in g y reads2 ∙ ap answer_number accepted2 in
-          let one : x.rule ≡ rule_of f = ap (λ (r : Reading). r.rule) reads ∙ rw first-none in
-          let other : y.rule ≡ rule_of g = ap (λ (r : Reading). r.rule) reads2 ∙ rw second_none in
-          by
-          (compared_rules f g first-none second_none
-          ∙ ap compared_by (sym (ap comparison_in is ∙ (compare.claims).told x.rule y.rule ∙ ap₂ compare_of one other))) w
-
-  -- ---- a file reduced
-  module _ (f : List ℕ) (x : ReadResult) (reads : read_outcome x ≡ read_of f) where
-    pub told_reduced_first : (n : ℕ) → x.answer ≡ reading.Refused n → Wrote before at (refused_text n) after end → Says (reduced_file f)
-    told_reduced_first n e w = by (reduced_first f n (number_in f x reads ∙ ap answer_number e)) w
-
-    module _ (accepted : x.answer ≡ reading.Accepted) (z : ReduceResult) (is : reduce_outcome z ≡ reduce_of x.rule) where
-      none_first : refusal f ≡ none
-      none_first = number_in f x reads ∙ ap answer_number accepted
-
-      by_result : {o : Option ℕ} → answer_number z.answer ≡ o → reduced_file f ≡ response_by o (file_of z.rule)
-      by_result e =
-          let rule : x.rule ≡ rule_of f = ap (λ (r : Reading). r.rule) reads ∙ rw none_first in
-          reduced_rule f none_first
-          ∙ ap reduced_by (sym (is ∙ ap reduce_of rule))
-          ∙ ap (λ (o : Option ℕ). response_by o (file_of z.rule)) e
-
-      pub told_reduced_refused : (n : ℕ) → z.answer ≡ reading.Refused n → Wrote before at (refused_text n) after end → Says (reduced_file f)
-      told_reduced_refused n e w = by (by_result (ap answer_number e)) w
-
-      pub told_reduced : z.answer ≡ reading.Accepted → Wrote before at (digits_of (file_of z.rule) ++ (10 ∷ [])) after end → Says (reduced_file f)
-      told_reduced e w = by (by_result (ap answer_number e)) w
-
   -- ---- by the word
   pub by_pair : (f g : List ℕ) (v u : Verb) → v ≡ u → Says (response_in (pair_by u f g)) → Says (response_in (pair_by v f g))
   by_pair f g v u e w = by (ap (λ (x : Verb). response_in (pair_by x f g)) e) w
@@ -294,7 +207,13 @@ module _ (before after : List ℕ) (at end : ℕ) where
   pub by_alone : (f : List ℕ) (v u : Verb) → v ≡ u → Says (response_in (alone_by u f)) → Says (response_in (alone_by v f))
   by_alone f v u e w = by (ap (λ (x : Verb). response_in (alone_by x f)) e) w
 
-pub made_passes : (r : Rule) (z : ReduceResult) → reduce_outcome z ≡ reduce_of r → z.answer ≡ reading.Accepted → rule_number z.rule ≡ none
-made_passes r z is e =
-    subst (λ (m : Reducing). rule_number m.rule ≡ none) (sym is)
-    (reduced_passes r (ap (λ (m : Reducing). m.number) (sym is) ∙ ap answer_number e))
+-- ---- two files compared, and the rule of a file reduced
+module _ (f g : List ℕ) (read : refusal f ≡ none) (read2 : refusal g ≡ none) (one two : Rule) (is : one ≡ rule_of f) (is2 : two ≡ rule_of g) where
+  pub compared_answered : (z : Result (code.Option Apart) Refusal) → compare_outcome z ≡ outcome_of (compare_of one two)
+      → compared_by (comparison_in (compare_outcome z)) ≡ compared_files f g
+  compared_answered z told =
+      ap compared_by (ap comparison_in told ∙ (compare.claims).told one two ∙ ap₂ compare_of is is2) ∙ sym (compared_rules f g read read2)
+
+pub made_passes : (r : Rule) (z : Reduced) → reduce_outcome (Ok z) ≡ reduce_of r → rule_number z.rule ≡ none
+made_passes r z is =
+    subst (λ (m : Reducing). rule_number m.rule ≡ none) (sym is) (reduced_passes r (sym (ap (λ (m : Reducing). m.number) is)))

@@ -6,6 +6,7 @@
 --   result_file way f g      the file of the two rules made one
 --   Response                 what a line is answered: a refusal, a file, a rule with a text that it
 --                            alone accepts, that the two accept the same, or that it is malformed
+--   rule_response r          the file of a rule, or the refusal that the code has in its place
 --   merged_files way f g     what merging two files is answered
 --   compared_files f g       what comparing them is
 --   reduced_file f           what reducing a file is
@@ -14,12 +15,15 @@
 --   response_text s          the whole line: `refused` and the number, the file in hex digits, which
 --                            rule and the text as a field, `same`, or `malformed`
 --   most_answer              the most bytes of an answer: two for each of a file's, and a line feed
-use Rattle.std.specs.Prelude.{List, [], ◌∷◌, ◌++◌, ℕ, ◌+◌, ◌*◌}
+use Rattle.std.specs.Prelude.{Result, Ok, Err, List, [], ◌∷◌, ◌++◌, ℕ, ◌+◌, ◌*◌}
 use Rattle.std.proofs.Math.Option.{Option, none, some}
+use Rattle.base.specs.declared.Refusal.{Refusal}
+use Rattle.base.specs.Answers.{refusal_number}
 use Rattle.base.specs.Conditions.{Condition, first_of}
 use Rattle.limits.specs.Limits.{longest_file}
 use Rattle.answers.specs.Answers.{refused_text, malformed_text}
 use Rattle.fields.specs.Claims.{digits_of, field_of}
+use Rattle.automaton.specs.declared.Rule.{Rule}
 use Rattle.ruleformat.specs.Refusals.{file_conditions, refusal}
 use Rattle.ruleformat.specs.Reader.{rule_of}
 use Rattle.ruleformat.specs.Writing.{file_of}
@@ -54,6 +58,10 @@ pub data Response : Type 0 where
 abbrev pub response_by : Option ℕ → List ℕ → Response
 response_by none f = file f
 response_by (some number) f = refused number
+
+abbrev pub rule_response : Result Rule Refusal → Response
+rule_response (Ok rule) = file (file_of rule)
+rule_response (Err refusal) = refused (refusal_number refusal)
 
 abbrev pub merged_files : Way → List ℕ → List ℕ → Response
 merged_files way f g = response_by (files_number way f g) (result_file way f g)

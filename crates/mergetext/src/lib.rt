@@ -1,7 +1,7 @@
 // The text of rulemerge: two rule files, merged or compared, or one, reduced, and the line that answers.
 #![tactic(auto)]
 
-ghost use Rattle.std.specs.Prelude.{◌≡◌, [], ◌∷◌, ◌++◌, ◌+◌, ◌≤◌, length};
+ghost use Rattle.std.specs.Prelude.{IfOk, ◌≡◌, [], ◌∷◌, ◌++◌, ◌+◌, ◌≤◌, length};
 ghost use Rattle.std.proofs.Math.Option.{none};
 ghost use Rattle.text.specs.Writing.{Wrote};
 ghost use Rattle.fields.specs.Claims.{digits_of, field_of};
@@ -10,11 +10,11 @@ ghost use Rattle.ruleformat.specs.Writing.{file_of};
 ghost use Rattle.searches.specs.Texts.{longest_text};
 ghost use Rattle.compare.specs.Values.{compare_outcome, comparison_in};
 ghost use Rattle.mergetext.specs.Lines.{pair_by, alone_by};
-ghost use Rattle.mergetext.specs.Answers.{most_answer, apart, merged_files, compared_by, compared_files, reduced_file, response_in, response_text};
+ghost use Rattle.mergetext.specs.Answers.{most_answer, apart, rule_response, merged_files, compared_by, compared_files, reduced_file, response_in, response_text};
 
 use automaton::Rule;
-use base::Answer;
-use compare::{CompareAnswer, CompareResult, Which};
+use base::Refusal;
+use compare::{Apart, Which};
 use merging::Way;
 
 // The word of a line: two files are merged in a way, or compared, or one is reduced.
@@ -36,27 +36,15 @@ fn put_rule(out: &mut [u8], at: usize, rule: Rule) -> usize
     text::put_byte(out, end, b'\n')
 }
 
-// Reads the first file, then the second, merges them and writes what comes of it.
-fn put_merged(way: Way, one: &[u8], two: &[u8], out: &mut [u8], at: usize) -> usize
-    requires { at + most_answer ≤ length out.old }
-    ensures { Wrote out.old at (response_text (merged_files way one.now two.now)) out.new result }
+// The line of a rule that is made, or of a refusal.
+fn put_made(out: &mut [u8], at: usize, made: Result<Rule, Refusal>) -> usize
+    requires { IfOk made (λ r. rule_number r ≡ none) × (at + most_answer ≤ length out.old) }
+    ensures { Wrote out.old at (response_text (rule_response made)) out.new result }
 {
-    let first = rulefile::read(one);
-    let answer = first.answer;
-    if let Answer::Refused(number) = answer {
-        return answers::put_refused(out, at, number);
+    match made {
+        Ok(rule) => put_rule(out, at, rule),
+        Err(refusal) => answers::put_refused(out, at, refusal.number()),
     }
-    let second = rulefile::read(two);
-    let answer = second.answer;
-    if let Answer::Refused(number) = answer {
-        return answers::put_refused(out, at, number);
-    }
-    let merging = merge::merge(way, first.rule, second.rule);
-    let answer = merging.answer;
-    if let Answer::Refused(number) = answer {
-        return answers::put_refused(out, at, number);
-    }
-    put_rule(out, at, merging.rule)
 }
 
 // The line of a text: a word, and the text as a field.
@@ -81,57 +69,49 @@ fn put_apart(out: &mut [u8], at: usize, which: Which, bytes: &[u8]) -> usize
 }
 
 // The line of a comparison.
-fn put_comparison(out: &mut [u8], at: usize, res: CompareResult) -> usize
+fn put_comparison(out: &mut [u8], at: usize, comparison: Result<Option<Apart>, Refusal>) -> usize
     requires { at + most_answer ≤ length out.old }
-    ensures { Wrote out.old at (response_text (compared_by (comparison_in (compare_outcome res)))) out.new result }
+    ensures { Wrote out.old at (response_text (compared_by (comparison_in (compare_outcome comparison)))) out.new result }
 {
-    let answer = res.answer;
-    match answer {
-        CompareAnswer::Apart(which) => {
-            let bytes = res.text;
-            let n = base::at_most(res.length, searches::LONGEST);
-            put_apart(out, at, which, &bytes[..n])
+    match comparison {
+        Ok(Some(apart)) => {
+            let spelled = apart.text;
+            let bytes = spelled.text;
+            let n = spelled.length.min(searches::LONGEST);
+            put_apart(out, at, apart.which, &bytes[..n])
         }
-        CompareAnswer::Same => text::put_bytes(out, at, b"same\n"),
-        CompareAnswer::Refused(number) => answers::put_refused(out, at, number),
+        Ok(None) => text::put_bytes(out, at, b"same\n"),
+        Err(refusal) => answers::put_refused(out, at, refusal.number()),
     }
 }
 
-// Reads the first file, then the second, compares them and writes what comes of it.
-fn put_compared(one: &[u8], two: &[u8], out: &mut [u8], at: usize) -> usize
-    requires { at + most_answer ≤ length out.old }
-    ensures { Wrote out.old at (response_text (compared_files one.now two.now)) out.new result }
+// Reads the first file, then the second, and merges them.
+fn merge_files(way: Way, one: &[u8], two: &[u8]) -> Result<Rule, Refusal>
+    ensures answered { rule_response result ≡ merged_files way one.now two.now }
+    ensures passes { IfOk result (λ r. rule_number r ≡ none) }
 {
-    let first = rulefile::read(one);
-    let answer = first.answer;
-    if let Answer::Refused(number) = answer {
-        return answers::put_refused(out, at, number);
-    }
-    let second = rulefile::read(two);
-    let answer = second.answer;
-    if let Answer::Refused(number) = answer {
-        return answers::put_refused(out, at, number);
-    }
-    let result = compare::compare(first.rule, second.rule);
-    put_comparison(out, at, result)
+    let first = rulefile::read(one)?;
+    let second = rulefile::read(two)?;
+    merge::merge(way, first, second)
 }
 
-// Reads a file, reduces it and writes what comes of it.
-fn put_reduced(file: &[u8], out: &mut [u8], at: usize) -> usize
-    requires { at + most_answer ≤ length out.old }
-    ensures { Wrote out.old at (response_text (reduced_file file.now)) out.new result }
+// Reads the first file, then the second, and compares them.
+fn compare_files(one: &[u8], two: &[u8]) -> Result<Option<Apart>, Refusal>
+    ensures { compared_by (comparison_in (compare_outcome result)) ≡ compared_files one.now two.now }
 {
-    let reading = rulefile::read(file);
-    let answer = reading.answer;
-    if let Answer::Refused(number) = answer {
-        return answers::put_refused(out, at, number);
-    }
-    let reducing = reduce::reduce(reading.rule);
-    let answer = reducing.answer;
-    if let Answer::Refused(number) = answer {
-        return answers::put_refused(out, at, number);
-    }
-    put_rule(out, at, reducing.rule)
+    let first = rulefile::read(one)?;
+    let second = rulefile::read(two)?;
+    compare::compare(first, second)
+}
+
+// Reads a file and reduces it.
+fn reduce_file(file: &[u8]) -> Result<Rule, Refusal>
+    ensures answered { rule_response result ≡ reduced_file file.now }
+    ensures passes { IfOk result (λ r. rule_number r ≡ none) }
+{
+    let rule = rulefile::read(file)?;
+    let reduced = reduce::reduce(rule)?;
+    Ok(reduced.rule)
 }
 
 // The answer to a word and two files.
@@ -140,8 +120,8 @@ pub fn put_pair(verb: Verb, one: &[u8], two: &[u8], out: &mut [u8], at: usize) -
     ensures { Wrote out.old at (response_text (response_in (pair_by verb one.now two.now))) out.new result }
 {
     match verb {
-        Verb::Merge(way) => put_merged(way, one, two, out, at),
-        Verb::Compare => put_compared(one, two, out, at),
+        Verb::Merge(way) => put_made(out, at, merge_files(way, one, two)),
+        Verb::Compare => put_comparison(out, at, compare_files(one, two)),
         Verb::Reduce => answers::put_malformed(out, at),
     }
 }
@@ -154,6 +134,6 @@ pub fn put_alone(verb: Verb, file: &[u8], out: &mut [u8], at: usize) -> usize
     match verb {
         Verb::Merge(_) => answers::put_malformed(out, at),
         Verb::Compare => answers::put_malformed(out, at),
-        Verb::Reduce => put_reduced(file, out, at),
+        Verb::Reduce => put_made(out, at, reduce_file(file)),
     }
 }

@@ -7,11 +7,12 @@
 --   merge_number way one two    the number of the first that holds, none where the two are merged
 --   Merging                     what merging answers: the number with which the two are refused, or
 --                               none; and a rule
---   merge_outcome               what the code's result stands for
+--   merge_outcome               what each case of the code's result stands for
 --   merge_of way one two        what merging the two answers
-use Rattle.std.specs.Prelude.{not, cond, List, [], ◌∷◌, ◌++◌, ℕ, eqb, ltb}
+use Rattle.std.specs.Prelude.{Result, Ok, Err, not, cond, List, [], ◌∷◌, ◌++◌, ℕ, eqb, ltb}
 use Rattle.std.proofs.Math.Option.{Option, none, some}
-use Rattle.base.specs.Answers.{answer_number}
+use Rattle.base.specs.declared.Refusal.{Refusal}
+use Rattle.base.specs.Answers.{refusal_number}
 use Rattle.base.specs.Conditions.{Condition, on, first_of}
 use Rattle.limits.specs.Limits.{most_states}
 use Rattle.automaton.specs.declared.Rule.{Rule}
@@ -19,7 +20,6 @@ use Rattle.rulecheck.specs.Checking.{rule_conditions}
 use Rattle.ruleformat.specs.Reader.{no_rule}
 use Rattle.merging.specs.declared.Way.{Way}
 use Rattle.merging.specs.declared.Way.TheVariants.{Both, Either, Interleaving}
-use Rattle.merging.specs.declared.MergeResult.{MergeResult}
 use Rattle.merging.specs.Merged.{states_of, merged_of}
 
 abbrev pub way_of : ℕ → Way
@@ -44,8 +44,9 @@ pub record Merging : Type 0 where
   pub number : Option ℕ
   pub rule : Rule
 
-abbrev pub merge_outcome : MergeResult → Merging
-merge_outcome r = record { number = answer_number r.answer; rule = r.rule }
+abbrev pub merge_outcome : Result Rule Refusal → Merging
+merge_outcome (Ok rule) = record { number = none; rule = rule }
+merge_outcome (Err refusal) = record { number = some (refusal_number refusal); rule = no_rule }
 
 -- a refusal carries zeros
 abbrev pub merging_by : Option ℕ → Rule → Merging

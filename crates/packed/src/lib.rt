@@ -16,10 +16,8 @@ pub fn unpack(bytes: &[u8]) -> Rule
     let initials = rulefile::word(bytes, 2);
     let finals = rulefile::word(bytes, 6);
     let mut targets = [0u32; limits::TARGETS];
-    let mut cell: usize = 0;
-    while cell < limits::TARGETS {
-        targets[cell] = rulefile::word(bytes, 10 + 4 * cell);
-        cell += 1;
+    for (cell, target) in targets.iter_mut().enumerate() {
+        *target = rulefile::word(bytes, 10 + 4 * cell);
     }
     Rule {
         n,

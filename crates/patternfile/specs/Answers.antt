@@ -9,11 +9,12 @@
 --   pattern_of b       what reading the bytes b answers: that number, the length of that file, and
 --                      its bytes with zeros after them
 --   refused_with x     a refusal: the number x, and zeros
---   pattern_outcome    what the code's result stands for
+--   pattern_outcome    what each case of the code's result stands for
 --   file_in o          the file in such an outcome: as many of its bytes as it says
-use Rattle.std.specs.Prelude.{Bool, not, List, [], ◌∷◌, ℕ, ltb, length, take, replicate}
+use Rattle.std.specs.Prelude.{Result, Ok, Err, Bool, not, List, [], ◌∷◌, ℕ, ltb, length, take, replicate}
 use Rattle.std.proofs.Math.Option.{Option, none, some}
-use Rattle.base.specs.Answers.{answer_number}
+use Rattle.base.specs.declared.Refusal.{Refusal}
+use Rattle.base.specs.Answers.{refusal_number}
 use Rattle.base.specs.Conditions.{Condition, on, first_of}
 use Rattle.ruleformat.specs.Writing.{file_of}
 use Rattle.rulewriter.specs.Written.{padded, Writing}
@@ -21,7 +22,7 @@ use Rattle.patterns.specs.Limits.{longest_pattern, most_letters, longest_pattern
 use Rattle.patternscan.specs.Signs.{letters_in}
 use Rattle.patternscan.specs.Scanning.{grammatical}
 use Rattle.patternreader.specs.Rules.{rule_read}
-use Rattle.patternfile.specs.declared.PatternResult.{PatternResult}
+use Rattle.patternfile.specs.declared.PatternFile.{PatternFile}
 
 abbrev pub too_long : List ℕ → Bool
 too_long b = ltb longest_pattern (length b)
@@ -55,8 +56,9 @@ pattern_of b = record {
 abbrev pub refused_with : ℕ → Writing
 refused_with x = record { number = some x; length = 0; bytes = replicate longest_pattern_file 0 }
 
-abbrev pub pattern_outcome : PatternResult → Writing
-pattern_outcome r = record { number = answer_number r.answer; length = r.length; bytes = r.bytes }
+abbrev pub pattern_outcome : Result PatternFile Refusal → Writing
+pattern_outcome (Ok file) = record { number = none; length = file.length; bytes = file.bytes }
+pattern_outcome (Err refusal) = refused_with (refusal_number refusal)
 
 abbrev pub file_in : Writing → List ℕ
 file_in o = take o.length o.bytes

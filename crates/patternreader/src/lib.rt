@@ -89,12 +89,9 @@ fn linked(follow: [u32; limits::STATES], last: u32, first: u32) -> [u32; limits:
     ensures { result ≡ linked_of follow last first }
 {
     let mut out = [0u32; limits::STATES];
-    let mut i: u8 = 0;
-    while i < limits::MOST_STATES {
-        let ends = masks::member(last, StateNumber(i));
-        let at = i as usize;
-        out[at] = follow[at] | kept(ends, first);
-        i += 1;
+    for (i, mask) in out.iter_mut().enumerate() {
+        let ends = masks::member(last, StateNumber(i as u8));
+        *mask = follow[i] | kept(ends, first);
     }
     out
 }
@@ -275,11 +272,9 @@ fn read_all(bytes: &[u8]) -> Reading
     ensures { result ≡ after_bytes beginning bytes.now }
 {
     let mut r = begin();
-    let mut i: usize = 0;
-    while i < bytes.len() {
-        let sign = patternscan::sign_of(bytes[i]);
+    for byte in bytes {
+        let sign = patternscan::sign_of(*byte);
         r = read_sign(r, sign);
-        i += 1;
     }
     r
 }
@@ -292,10 +287,8 @@ fn fill_targets(
     ensures { result ≡ targets_of rows positions }
 {
     let mut t = [0u32; limits::TARGETS];
-    let mut c: usize = 0;
-    while c < limits::TARGETS {
-        t[c] = rows[c / limits::SYMBOLS] & positions[c % limits::SYMBOLS];
-        c += 1;
+    for (c, target) in t.iter_mut().enumerate() {
+        *target = rows[c / limits::SYMBOLS] & positions[c % limits::SYMBOLS];
     }
     t
 }

@@ -16,10 +16,8 @@ use Rattle.patterns.specs.Patterns.{Pattern, then, or}
 use Rattle.patterns.specs.Grammar.{Level, alternatives, sequence, item, Parses, a_letter, brackets, a_star, nothing, next, first, other}
 use Rattle.patternscan.specs.declared.Sign.{Sign}
 use Rattle.patternscan.specs.declared.Sign.TheVariants.{Letter, Bar, Opens, Closes, Star, Foreign}
-use Rattle.patternscan.specs.declared.Scan.{Scan}
-use Rattle.patternscan.specs.declared.Scan.TheVariants.{Lost, Within}
 use Rattle.patternscan.specs.Signs.{sign_of}
-use Rattle.patternscan.specs.Scanning.{step, scan, whole, grammatical}
+use Rattle.patternscan.specs.Scanning.{Scan, lost, within, step, scan, whole, grammatical}
 
 -- ---- signs
 pub sign_letter : (a : ℕ) → a < 16 → sign_of (97 + a) ≡ Letter a
@@ -82,30 +80,30 @@ one_more b r c e = ap (λ (x : Sign). scan (step x r) c) e
 
 -- an item leaves the depth, and a star may follow it; other texts leave the depth
 Scans : Level → List ℕ → Type 0
-Scans item b = (d : ℕ) (f : Bool) → scan (Within d f) b ≡ Within d true
-Scans sequence b = (d : ℕ) (f : Bool) → (g : Bool) × (scan (Within d f) b ≡ Within d g)
-Scans alternatives b = (d : ℕ) (f : Bool) → (g : Bool) × (scan (Within d f) b ≡ Within d g)
+Scans item b = (d : ℕ) (f : Bool) → scan (within d f) b ≡ within d true
+Scans sequence b = (d : ℕ) (f : Bool) → (g : Bool) × (scan (within d f) b ≡ within d g)
+Scans alternatives b = (d : ℕ) (f : Bool) → (g : Bool) × (scan (within d f) b ≡ within d g)
 
 scans : {l : Level} {b : List ℕ} {p : Pattern} → Parses l b p → Scans l b
 unfolding Scans
-scans (a_letter {s = s} h) = λ d f. one_more (97 + s) (Within d f) [] (sign_letter s h)
+scans (a_letter {s = s} h) = λ d f. one_more (97 + s) (within d f) [] (sign_letter s h)
 scans (brackets {b = b} r) = λ d f.
     let i = scans r (suc d) false in
-    one_more 40 (Within d f) (b ++ (41 ∷ [])) sign_opens
-    ∙ scan-append (Within (suc d) false) b (41 ∷ [])
+    one_more 40 (within d f) (b ++ (41 ∷ [])) sign_opens
+    ∙ scan-append (within (suc d) false) b (41 ∷ [])
     ∙ ap (λ (x : Scan). scan x (41 ∷ [])) i.1
-    ∙ one_more 41 (Within (suc d) i.0) [] sign_closes
+    ∙ one_more 41 (within (suc d) i.0) [] sign_closes
 scans (a_star {b = b} r) = λ d f.
-    scan-append (Within d f) b (42 ∷ []) ∙ ap (λ (x : Scan). scan x (42 ∷ [])) (scans r d f) ∙ one_more 42 (Within d true) [] sign_star
+    scan-append (within d f) b (42 ∷ []) ∙ ap (λ (x : Scan). scan x (42 ∷ [])) (scans r d f) ∙ one_more 42 (within d true) [] sign_star
 scans nothing = λ d f. (f, refl)
 scans (next {b = b} {c = c} r t) = λ d f.
     let i = scans r d f in
-    (true, scan-append (Within d f) b c ∙ ap (λ (x : Scan). scan x c) i.1 ∙ scans t d i.0)
+    (true, scan-append (within d f) b c ∙ ap (λ (x : Scan). scan x c) i.1 ∙ scans t d i.0)
 scans (first r) = scans r
 scans (other {b = b} {c = c} r t) = λ d f.
     let i = scans r d f in
     let j = scans t d false in
-    (j.0, scan-append (Within d f) b (124 ∷ c) ∙ ap (λ (x : Scan). scan x (124 ∷ c)) i.1 ∙ one_more 124 (Within d i.0) c sign_bar ∙ j.1)
+    (j.0, scan-append (within d f) b (124 ∷ c) ∙ ap (λ (x : Scan). scan x (124 ∷ c)) i.1 ∙ one_more 124 (within d i.0) c sign_bar ∙ j.1)
 
 -- ---- a scanned text is parsed
 record Ending (b : List ℕ) : Type 0 where
@@ -151,22 +149,22 @@ read_item {b} {c} {p} {q} a i =
 read_fresh : {b : List ℕ} {p : Pattern} → Parses alternatives b p → Read b false
 read_fresh {p = p} a = record { tree = p; parses = a; ending = λ e. not_both e refl }
 
-pub scan_lost : (c : List ℕ) → scan Lost c ≡ Lost
+pub scan_lost : (c : List ℕ) → scan lost c ≡ lost
 scan_lost [] = refl
 scan_lost (x ∷ c) = scan_lost c
 
-no_tree : {A : Type 0} (c : List ℕ) → whole (scan Lost c) ≡ true → A
+no_tree : {A : Type 0} (c : List ℕ) → whole (scan lost c) ≡ true → A
 no_tree c e = not_both (sym (ap whole (scan_lost c)) ∙ e) refl
 
 -- what is read, and what is left
 Rest : List ℕ → Type 0
-Rest c = (d : ℕ) (f : Bool) (pre b : List ℕ) → Stack d pre → Read b f → whole (scan (Within d f) c) ≡ true → Tree ((pre ++ b) ++ c)
+Rest c = (d : ℕ) (f : Bool) (pre b : List ℕ) → Stack d pre → Read b f → whole (scan (within d f) c) ≡ true → Tree ((pre ++ b) ++ c)
 
 retree : {b c : List ℕ} → b ≡ c → Tree b → Tree c
 retree e t = subst Tree e t
 
 rest_step : (x : ℕ) (c : List ℕ) → Rest c → {s : Sign} → View x s
-    → (d : ℕ) (f : Bool) (pre b : List ℕ) → Stack d pre → Read b f → whole (scan (step s (Within d f)) c) ≡ true → Tree ((pre ++ b) ++ (x ∷ c))
+    → (d : ℕ) (f : Bool) (pre b : List ℕ) → Stack d pre → Read b f → whole (scan (step s (within d f)) c) ≡ true → Tree ((pre ++ b) ++ (x ∷ c))
 unfolding Rest
 rest_step x c rec (v_letter {a = a} h) d f pre b st r e =
     retree (simp append_assoc) (rec d true pre (b ++ ((97 + a) ∷ [])) st (read_item r.parses (a_letter h)) e)

@@ -3,9 +3,8 @@
 #![tactic(auto)]
 
 ghost use Rattle.std.specs.Prelude.{◌≡◌, ◌<◌, ◌≤◌, length};
-ghost use Rattle.patternscan.specs.declared.Scan.TheVariants.{Within};
 ghost use Rattle.patternscan.specs.Signs.{sign_of, symbols_of, letters_in};
-ghost use Rattle.patternscan.specs.Scanning.{step as step_of, grammatical as grammaticalOf};
+ghost use Rattle.patternscan.specs.Scanning.{within, scan_means, step as step_of, grammatical as grammaticalOf};
 
 // What a byte is in a pattern; a letter with its symbol.
 #[derive(Clone, Copy)]
@@ -16,13 +15,6 @@ pub enum Sign {
     Closes,
     Star,
     Foreign,
-}
-
-// The test of a pattern: lost, or so many brackets are open, and whether a star may follow.
-#[derive(Clone, Copy)]
-pub enum Scan {
-    Lost,
-    Within(usize, bool),
 }
 
 pub fn sign_of(b: u8) -> Sign
@@ -49,28 +41,29 @@ pub fn sign_of(b: u8) -> Sign
     Sign::Foreign
 }
 
-// One sign more.
-fn stepped(depth: usize, starry: bool, sign: Sign) -> Scan
+// One sign more, where so many brackets are open, and a star may follow or not: the same after it, or
+// none where the bytes are no pattern.
+fn stepped(depth: usize, starry: bool, sign: Sign) -> Option<(usize, bool)>
     requires { depth < 18446744073709551615 }
-    ensures { result ≡ step_of sign (Within depth starry) }
+    ensures { scan_means result ≡ step_of sign (within depth starry) }
 {
     match sign {
-        Sign::Letter(_) => Scan::Within(depth, true),
-        Sign::Bar => Scan::Within(depth, false),
-        Sign::Opens => Scan::Within(depth + 1, false),
+        Sign::Letter(_) => Some((depth, true)),
+        Sign::Bar => Some((depth, false)),
+        Sign::Opens => Some((depth + 1, false)),
         Sign::Closes => {
             if depth == 0 {
-                return Scan::Lost;
+                return None;
             }
-            Scan::Within(depth - 1, true)
+            Some((depth - 1, true))
         }
         Sign::Star => {
             if starry {
-                return Scan::Within(depth, true);
+                return Some((depth, true));
             }
-            Scan::Lost
+            None
         }
-        Sign::Foreign => Scan::Lost,
+        Sign::Foreign => None,
     }
 }
 
@@ -80,15 +73,13 @@ pub fn grammatical(bytes: &[u8]) -> bool
 {
     let mut depth: usize = 0;
     let mut starry = false;
-    let mut i: usize = 0;
-    while i < bytes.len() {
-        let sign = sign_of(bytes[i]);
-        let Scan::Within(d, s) = stepped(depth, starry, sign) else {
+    for byte in bytes {
+        let sign = sign_of(*byte);
+        let Some((d, s)) = stepped(depth, starry, sign) else {
             return false;
         };
         depth = d;
         starry = s;
-        i += 1;
     }
     depth == 0
 }
@@ -113,11 +104,9 @@ pub fn count_letters(bytes: &[u8]) -> usize
     ensures { result ≡ length (letters_in bytes.now) }
 {
     let mut n: usize = 0;
-    let mut i: usize = 0;
-    while i < bytes.len() {
-        let sign = sign_of(bytes[i]);
+    for byte in bytes {
+        let sign = sign_of(*byte);
         n += counted(sign);
-        i += 1;
     }
     n
 }

@@ -11,7 +11,9 @@ use mathlib.Core.Option.{Option, none, some}
 use Prim.Native.Nat.{ℕ, ◌≤◌}
 use native.Mathlib.Omega.{arith}
 use lib.ListN.{length, take, length-append}
-use Rattle.base.specs.Answers.{answer_number}
+use Rattle.std.proofs.Common.{Ok, Err}
+use Rattle.base.specs.declared.Refusal.{Refusal}
+use Rattle.base.specs.Answers.{refusal_number}
 use Rattle.text.specs.Numerals.{decimal_below}
 use Rattle.fields.specs.Claims.{digits_of}
 use Rattle.hexfields.proofs.Digits.{digits_length}
@@ -19,31 +21,26 @@ use Rattle.ruletext.specs.RuleText.{refused_text}
 use Rattle.rulewriter.specs.Written.{Writing}
 use Rattle.rulewriter.proofs.Claims.{front}
 use Rattle.patterns.specs.Limits.{longest_pattern_file}
-use Rattle.base.specs.declared.Answer.TheVariants.{Accepted, Refused}
-use Rattle.patternfile.specs.declared.PatternResult.{PatternResult}
+use Rattle.patternfile.specs.declared.PatternFile.{PatternFile}
 use Rattle.patternfile.specs.Answers.{pattern_number, pattern_file, pattern_of, pattern_outcome, file_in}
 use Rattle.patternfile.proofs.Claims.{claims}
 use Rattle.patterntext.specs.Answers.{answer_room, answer_by, answer_text}
 
-module _ (b : List ℕ) (r : PatternResult) (told : pattern_outcome r ≡ pattern_of b) where
-  pub told-length : r.length ≤ 2122
+module _ (b : List ℕ) (f : PatternFile) (told : pattern_outcome (Ok f) ≡ pattern_of b) where
+  pub told-length : f.length ≤ 2122
   told-length = rw (ap (λ (o : Writing). o.length) told) (claims.fits b)
 
-  pub told-room : length r.bytes ≡ 2122
+  pub told-room : length f.bytes ≡ 2122
   told-room = ap (λ (o : Writing). length o.bytes) told ∙ claims.room b
 
-  pub told_file : take r.length r.bytes ≡ pattern_file b
+  pub told_file : take f.length f.bytes ≡ pattern_file b
   told_file = ap file_in told ∙ front longest_pattern_file (pattern_file b)
 
-  number : pattern_number b ≡ answer_number r.answer
-  number = sym (ap (λ (o : Writing). o.number) told)
+  pub accepted : digits_of (take f.length f.bytes) ++ (10 ∷ []) ≡ answer_text b
+  accepted = ap₂ (λ (o : Option ℕ) (d : List ℕ). answer_by o d) (ap (λ (o : Writing). o.number) told) told_file
 
-  pub accepted : r.answer ≡ Accepted → digits_of (take r.length r.bytes) ++ (10 ∷ []) ≡ answer_text b
-  accepted e =
-      ap₂ (λ (o : Option ℕ) (f : List ℕ). answer_by o f) (sym (number ∙ ap answer_number e)) told_file
-
-  pub refused : {x : ℕ} → r.answer ≡ Refused x → refused_text x ≡ answer_text b
-  refused e = ap (λ (o : Option ℕ). answer_by o (pattern_file b)) (sym (number ∙ ap answer_number e))
+pub refused : (b : List ℕ) (e : Refusal) → pattern_outcome (Err e) ≡ pattern_of b → refused_text (refusal_number e) ≡ answer_text b
+refused b e told = ap (λ (o : Option ℕ). answer_by o (pattern_file b)) (ap (λ (o : Writing). o.number) told)
 
 text-fits-by : (b : List ℕ) (o : Option ℕ) → pattern_number b ≡ o → length (answer_by o (pattern_file b)) ≤ 4245
 unfolding decimal_below

@@ -4,15 +4,15 @@
 
 ghost use Rattle.std.specs.Prelude.{◌+◌, ◌≤◌, length};
 ghost use Rattle.text.specs.Writing.{Wrote};
+ghost use Rattle.ruletext.specs.RuleText.{refused_text};
 ghost use Rattle.linetexts.specs.Feeding.{finish_of};
-ghost use Rattle.linetexts.specs.Beginnings.{held_step};
 ghost use Rattle.linetexts.specs.Alone.{line_state, FedLines};
 ghost use Rattle.patterns.specs.Limits.{longest_pattern};
 ghost use Rattle.patterntext.specs.Answers.{answer_room, answer_text};
 ghost use Rattle.patterntext.specs.Texts.{pattern_lines};
 
-use base::Answer;
-use linetexts::Round;
+use base::Refusal;
+use linetexts::{AnswersLines, Round};
 use longlines::Held;
 
 // Room for what is kept of a line: one byte more than a pattern may have, since a longer one is
@@ -28,30 +28,38 @@ fn put_answer(out: &mut [u8], at: usize, pattern: &[u8]) -> usize
     ensures { Wrote out.old at
         (answer_text pattern.now) out.new result }
 {
-    let result = patternfile::write_pattern(pattern);
-    let answer = result.answer;
-    let n = result.length;
-    let file = result.bytes;
-    match answer {
-        Answer::Accepted => {
-            let end = hexfields::put_digits(out, at, &file[..n]);
+    match patternfile::write_pattern(pattern) {
+        Ok(file) => {
+            let bytes = file.bytes;
+            let end = hexfields::put_digits(out, at, &bytes[..file.length]);
             text::put_byte(out, end, b'\n')
         }
-        Answer::Refused(number) => answers::put_refused(out, at, number),
+        Err(refusal) => answers::put_refused(out, at, refusal.number()),
     }
 }
 
-// The answer to a line that has ended.
-fn answer_held(line: &[u8], held: Held, out: &mut [u8], at: usize) -> usize
-    requires { at + answer_room ≤ length out.old }
-    ensures { Wrote out.old at (held_step pattern_lines tt line.now held).text out.new result }
-{
-    let seen = longlines::look(line, held);
-    let n = seen.length;
-    if seen.hex {
-        return put_answer(out, at, &line[..n]);
+// Lines that are patterns.
+#[derive(Clone, Copy)]
+struct PatternLines;
+
+impl AnswersLines for PatternLines {
+    const ROOM: usize = ANSWER;
+
+    ghost ROOM = { answer_room };
+
+    ghost answer = { answer_text };
+
+    ghost longest = { longest_pattern };
+
+    ghost overlong = { refused_text 30 };
+
+    fn put_answer(&mut self, line: &[u8], out: &mut [u8], at: usize) -> usize {
+        put_answer(out, at, line)
     }
-    answers::put_refused(out, at, 30)
+
+    fn put_overlong(out: &mut [u8], at: usize) -> usize {
+        answers::put_refused(out, at, Refusal::LongPattern.number())
+    }
 }
 
 // The parts of a block from an index on, while there is room for their answers, which stand one
@@ -60,23 +68,7 @@ pub fn gather(held: Held, line: &mut [u8], out: &mut [u8], block: &[u8], from: u
     requires { longest_pattern + 2 ≤ length line.old }
     ensures { FedLines pattern_lines held line.old out.old block.now from line.new out.new result }
 {
-    let mut held = held;
-    let mut at = from;
-    let mut written: usize = 0;
-    while at < block.len() {
-        if out.len() - written < ANSWER {
-            break;
-        }
-        let part = linetexts::take_part(held, line, block, at);
-        at = part.at;
-        held = part.held;
-        if !part.ends {
-            continue;
-        }
-        written = answer_held(line, held, out, written);
-        held = longlines::nothing();
-    }
-    Round { held, at, written }
+    linetexts::gather(&mut PatternLines, held, line, out, block, from)
 }
 
 // The end of the text: a last line that is not empty is answered.
@@ -84,8 +76,5 @@ pub fn finish(held: Held, line: &[u8], out: &mut [u8]) -> usize
     requires { (longest_pattern + 2 ≤ length line.now) × (answer_room ≤ length out.old) }
     ensures { Wrote out.old 0 (finish_of pattern_lines (line_state held line.now)).text out.new result }
 {
-    if held.length == 0 {
-        return 0;
-    }
-    answer_held(line, held, out, 0)
+    linetexts::finish(&mut PatternLines, held, line, out)
 }

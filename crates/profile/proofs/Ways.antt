@@ -5,6 +5,7 @@
 --   run-..       the chunk is refused with 12, with 13, or it is run; lent-.. the same where what a
 --                run reads of the profile is lent
 --   walk-..      a byte more, and none left
+use Rattle.std.proofs.Common.{Ok, Some, None}
 use mathlib.Core.Path.{◌≡◌, refl, sym, ap, ◌∙◌}
 use mathlib.Core.Bool.{Bool, true, false, cond}
 use mathlib.Core.List.{List}
@@ -15,6 +16,7 @@ use native.Mathlib.Omega.{arith}
 use lib.ListN.{length, get_or, drop, drop_of_length-le}
 use lib.Seq.{drop-cons}
 use borrow.Author.Tests.{lt-ltb, le-ltb}
+use Rattle.base.specs.Options.{option_of}
 use Rattle.automaton.specs.declared.Rule.{Rule}
 use Rattle.rulecheck.specs.Checking.{rule_number}
 use Rattle.rulecheck.proofs.First.{checked_first, checked_then}
@@ -23,6 +25,7 @@ use Rattle.marks.specs.Marks.{text_of}
 use Rattle.chunks.specs.Chunks.{foreign}
 use Rattle.chunks.specs.Taking.{chunk_number}
 use Rattle.chunks.proofs.Claims as chunks
+use Rattle.mappings.specs.declared.Mapping.{Mapping}
 use Rattle.mappings.specs.Mappings.{identity}
 use Rattle.numbering.specs.mirror.Arrays.{limited}
 use Rattle.numbering.proofs.Arrays.{whole_of, over_of}
@@ -30,25 +33,24 @@ use Rattle.mappings.specs.Packing.{pack, unpack, mapping_walk}
 use Rattle.mappings.specs.Claims.{Small, keys_of}
 use Rattle.keys.specs.declared.KeyTable.{KeyTable}
 use Rattle.keys.specs.declared.Kind.TheVariants.{Mappings}
-use Rattle.keys.specs.declared.Numbering.TheVariants.{Whole, Over}
-use Rattle.keys.specs.Tables.{count_means, Table, table_outcome, table_for, table_by, table_of}
+use Rattle.keys.specs.Tables.{Table, table_outcome, table_for, table_by, table_of}
 use Rattle.keys.proofs.Tables.{one_whole}
 use Rattle.profile.specs.declared.Profile.{Profile}
-use Rattle.profile.specs.Profiles.{many_mappings, own_conditions, build_number, accepted, Building, profile_of, refused_build, build_by, build_of}
-use Rattle.profile.specs.Runs.{walk_to, mapping_in, Ran, refused_run, run_of, Lends}
+use Rattle.profile.specs.Profiles.{many_mappings, own_conditions, build_number, profile_of, build_outcome, refused_build, build_by, build_of}
+use Rattle.profile.specs.Runs.{walk_to, mapping_in, run_outcome, refused_run, run_by, run_of, Lends}
 
 -- ---- building
-module _ (r : Rule) (o : Building) where
-  by_number : (x : ℕ) → build_number r ≡ some x → o ≡ refused_build x → o ≡ build_of r
-  by_number x e is = is ∙ sym (ap (λ n. build_by n r) e)
+module _ (r : Rule) where
+  by_number : (x : ℕ) → build_number r ≡ some x → refused_build x ≡ build_of r
+  by_number x e = sym (ap (λ n. build_by n r) e)
 
-  pub build_unchecked : (x : ℕ) → rule_number r ≡ some x → o ≡ refused_build x → o ≡ build_of r
+  pub build_unchecked : (x : ℕ) → rule_number r ≡ some x → refused_build x ≡ build_of r
   unfolding build_number
-  build_unchecked x e is = by_number x (checked_first r (own_conditions r) x e) is
+  build_unchecked x e = by_number x (checked_first r (own_conditions r) x e)
 
-  pub build_33 : rule_number r ≡ none → 8 < r.n → o ≡ refused_build 33 → o ≡ build_of r
+  pub build_33 : rule_number r ≡ none → 8 < r.n → refused_build 33 ≡ build_of r
   unfolding build_number
-  build_33 e b is = by_number 33 (checked_then r (own_conditions r) e ∙ rw (lt-ltb 8 r.n b)) is
+  build_33 e b = by_number 33 (checked_then r (own_conditions r) e ∙ rw (lt-ltb 8 r.n b))
 
   module _ (small : Small r) where
     number_is : build_number r ≡ cond (many_mappings r) (some 34) none
@@ -63,73 +65,67 @@ module _ (r : Rule) (o : Building) where
     table_is = let e : min r.k 16 ≡ r.k = omega (arith, small.good.symbols) in rw e
 
     module _ (t : KeyTable) (are : table_outcome t ≡ table) where
-      counted : count_means t.answer ≡ limited (keys_of r)
+      counted : option_of t.count ≡ limited (keys_of r)
       counted = ap (λ (x : Table). x.count) (are ∙ table_is)
 
-      pub build_34 : t.answer ≡ Over → o ≡ refused_build 34 → o ≡ build_of r
-      build_34 e is =
-          let many = over_of (keys_of r) (sym (ap count_means e) ∙ counted) in
-          by_number 34 (number_is ∙ rw (lt-ltb 512 (length (keys_of r)) many)) is
+      pub build_34 : t.count ≡ None → refused_build 34 ≡ build_of r
+      build_34 e =
+          let many = over_of (keys_of r) (sym (ap option_of e) ∙ counted) in
+          by_number 34 (number_is ∙ rw (lt-ltb 512 (length (keys_of r)) many))
 
-      pub build-whole : (c : ℕ) → t.answer ≡ Whole c
-          → o ≡ record {
-            reply = accepted c;
-            profile = record {
-              n = r.n;
-              k = r.k;
-              initials = r.initials;
-              finals = r.finals;
-              count = c;
-              mappings = t.keys;
-              next = t.next;
-            };
-          }
-          → o ≡ build_of r
-      build-whole c e is =
-          let x = whole_of (keys_of r) c (sym (ap count_means e) ∙ counted) in
+      pub build-whole : (c : ℕ) → t.count ≡ Some c
+          → build_outcome (Ok (record {
+            n = r.n;
+            k = r.k;
+            initials = r.initials;
+            finals = r.finals;
+            count = c;
+            mappings = t.keys;
+            next = t.next;
+          }))
+          ≡ build_of r
+      build-whole c e =
+          let x = whole_of (keys_of r) c (sym (ap option_of e) ∙ counted) in
           let keys : t.keys ≡ (profile_of r).mappings = ap (λ (y : Table). y.keys) (are ∙ table_is) in
           let next : t.next ≡ (profile_of r).next =
           ap (λ (y : Table). y.next) (are ∙ table_is)
           ∙ one_whole Mappings r.targets r.targets r.k (pack (identity r.n)) x.0 in
-          is ∙ rw (number_is, le-ltb 512 (length (keys_of r)) x.0, x.1, keys, next)
+          rw (number_is, le-ltb 512 (length (keys_of r)) x.0, x.1, keys, next)
 
 -- ---- running
-module _ (p : Profile) (w : List ℕ) (o : Ran) where
-  pub run_12 : 65536 < length w → o ≡ refused_run 12 → o ≡ run_of p w
+module _ (p : Profile) (w : List ℕ) where
+  pub run_12 : 65536 < length w → refused_run 12 ≡ run_of p w
   unfolding run_of
-  run_12 b is = let e : chunk_number p.k w ≡ some 12 = ((chunks.claims).taking p.k w).number_12.1 b in is ∙ rw e
+  run_12 b = let e : chunk_number p.k w ≡ some 12 = ((chunks.claims).taking p.k w).number_12.1 b in rw e
 
   module _ (short : length w ≤ 65536) (text : List ℕ) (is-text : text_of w ≡ text) where
     same_text : (b : Bool) → foreign text p.k ≡ b → foreign (text_of w) p.k ≡ b
     same_text b e = ap (λ (v : List ℕ). foreign v p.k) is-text ∙ e
 
-    pub run_13 : foreign text p.k ≡ true → o ≡ refused_run 13 → o ≡ run_of p w
+    pub run_13 : foreign text p.k ≡ true → refused_run 13 ≡ run_of p w
     unfolding run_of
-    run_13 e is =
-        let n : chunk_number p.k w ≡ some 13 = ((chunks.claims).taking p.k w).number_13.1 (short, same_text true e) in
-        is ∙ rw n
+    run_13 e =
+        let n : chunk_number p.k w ≡ some 13 = ((chunks.claims).taking p.k w).number_13.1 (short, same_text true e) in rw n
 
     pub run_whole : foreign text p.k ≡ false → (number : ℕ) → number ≡ walk_to p.next 0 text
-        → o ≡ record { refusal = none; masks = mapping_in p number }
-        → o ≡ run_of p w
+        → run_by none (mapping_in p number) ≡ run_of p w
     unfolding run_of
-    run_whole e number n is =
+    run_whole e number n =
         let taken : chunk_number p.k w ≡ none = ((chunks.claims).taking p.k w).taken.1 (short, same_text false e) in
-        is ∙ rw (taken, is-text, n)
+        rw (taken, is-text, n)
 
 -- the same, where what a run reads of the profile is lent
-module _ (k : ℕ) (next packed text : List ℕ) (o : Ran) (p : Profile) (w : List ℕ) (lends : Lends p k next packed)
+module _ (k : ℕ) (next packed text : List ℕ) (p : Profile) (w : List ℕ) (lends : Lends p k next packed)
     (short : length w ≤ 65536) (is-text : text_of w ≡ text) where
-  pub lent_13 : foreign text k ≡ true → o ≡ refused_run 13 → o ≡ run_of p w
-  lent_13 e is = run_13 p w o short text is-text (ap (foreign text) lends.symbols ∙ e) is
+  pub lent_13 : foreign text k ≡ true → refused_run 13 ≡ run_of p w
+  lent_13 e = run_13 p w short text is-text (ap (foreign text) lends.symbols ∙ e)
 
   pub lent_whole : foreign text k ≡ false → (number : ℕ) → number ≡ walk_to next 0 text
-      → o ≡ record { refusal = none; masks = unpack (get_or packed (number % 512) 0) }
-      → o ≡ run_of p w
-  lent_whole e number n is =
-      run_whole p w o short text is-text (ap (foreign text) lends.symbols ∙ e) number
-      (n ∙ ap (λ (t : List ℕ). walk_to t 0 text) (sym lends.table))
-      (is ∙ ap (λ (t : List ℕ). record { refusal = none; masks = unpack (get_or t (number % 512) 0) }) (sym lends.numbered))
+      → (m : Mapping) → m.masks ≡ unpack (get_or packed (number % 512) 0)
+      → run_outcome (Ok m) ≡ run_of p w
+  lent_whole e number n m is =
+      ap (run_by none) (is ∙ ap (λ (t : List ℕ). unpack (get_or t (number % 512) 0)) (sym lends.numbered))
+      ∙ run_whole p w short text is-text (ap (foreign text) lends.symbols ∙ e) number (n ∙ ap (λ (t : List ℕ). walk_to t 0 text) (sym lends.table))
 
 pub lent_all : (p : Profile) → Lends p p.k p.next p.mappings
 lent_all p = record { symbols = refl; table = refl; numbered = refl }

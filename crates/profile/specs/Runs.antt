@@ -13,17 +13,18 @@
 --                         that a run reads of it
 --   verdict_of p f        the verdict of the mapping f: yes where it leads from an initial state to
 --                         a final one
-use Rattle.std.specs.Prelude.{◌≡◌, Bool, List, [], ◌∷◌, ℕ, ◌+◌, ◌*◌, ◌%◌, get_or, replicate}
+use Rattle.std.specs.Prelude.{Result, Ok, Err, ◌≡◌, Bool, List, [], ◌∷◌, ℕ, ◌+◌, ◌*◌, ◌%◌, get_or, replicate}
 use Rattle.std.proofs.Math.Option.{Option, none, some}
-use Rattle.base.specs.Answers.{answer_number}
+use Rattle.base.specs.declared.Refusal.{Refusal}
+use Rattle.base.specs.Answers.{refusal_number}
 use Rattle.limits.specs.Limits.{most_symbols, most_sets}
 use Rattle.masks.specs.Masks.{shares}
 use Rattle.marks.specs.Marks.{text_of}
 use Rattle.chunks.specs.Taking.{chunk_number}
+use Rattle.mappings.specs.declared.Mapping.{Mapping}
 use Rattle.mappings.specs.Mappings.{mapped_states, image}
 use Rattle.mappings.specs.Packing.{unpack}
 use Rattle.profile.specs.declared.Profile.{Profile}
-use Rattle.profile.specs.declared.RunResult.{RunResult}
 
 unfoldable pub walk_to : List ℕ → ℕ → List ℕ → ℕ
 walk_to next i [] = i
@@ -36,11 +37,12 @@ pub record Ran : Type 0 where
   pub refusal : Option ℕ
   pub masks : List ℕ
 
-abbrev pub run_outcome : RunResult → Ran
-run_outcome r = record { refusal = answer_number r.answer; masks = r.mapping.masks }
-
 abbrev pub refused_run : ℕ → Ran
 refused_run number = record { refusal = some number; masks = replicate mapped_states 0 }
+
+abbrev pub run_outcome : Result Mapping Refusal → Ran
+run_outcome (Ok mapping) = record { refusal = none; masks = mapping.masks }
+run_outcome (Err refusal) = refused_run (refusal_number refusal)
 
 abbrev pub run_by : Option ℕ → List ℕ → Ran
 run_by none masks = record { refusal = none; masks = masks }

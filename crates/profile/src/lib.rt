@@ -6,12 +6,12 @@ ghost use Rattle.std.specs.Prelude.{◌≡◌, List, ℕ, ◌≤◌, length};
 ghost use Rattle.limits.specs.Limits.{longest_chunk};
 ghost use Rattle.marks.specs.Marks.{text_of};
 ghost use Rattle.mappings.specs.Claims.{Small};
-ghost use Rattle.profile.specs.Profiles.{no_profile, refused_build, build_outcome, build_of};
-ghost use Rattle.profile.specs.Runs.{walk_to, refused_run, run_outcome, run_of, Lends, verdict_of};
+ghost use Rattle.profile.specs.Profiles.{no_profile, build_outcome, build_of};
+ghost use Rattle.profile.specs.Runs.{walk_to, run_outcome, run_of, Lends, verdict_of};
 
 use automaton::Rule;
-use base::Answer;
-use keys::{Kind, Numbering};
+use base::Refusal;
+use keys::Kind;
 use mappings::Mapping;
 
 // The mappings of a rule, each as one number, and the table: the number of the mapping that mapping
@@ -26,27 +26,6 @@ pub struct Profile {
     pub count: u16,
     pub mappings: [u64; limits::SETS],
     pub next: [u16; limits::CELLS],
-}
-
-// How many mappings the rule has, or a refusal.
-#[derive(Clone, Copy)]
-pub enum BuildAnswer {
-    Accepted(u16),
-    Refused(u8),
-}
-
-// The answer, with the profile beside it: zeros where the rule is refused.
-#[derive(Clone, Copy)]
-pub struct BuildResult {
-    pub answer: BuildAnswer,
-    pub profile: Profile,
-}
-
-// The answer, with the mapping beside it: zeros where the chunk is refused.
-#[derive(Clone, Copy)]
-pub struct RunResult {
-    pub answer: Answer,
-    pub mapping: Mapping,
 }
 
 // Zeros in every field.
@@ -66,67 +45,41 @@ pub fn nothing_built() -> Profile
     }
 }
 
-// Refused with that number.
-pub fn refuse_rule(number: u8) -> BuildResult
-    ensures { build_outcome result ≡ refused_build number }
-{
-    let answer = BuildAnswer::Refused(number);
-    let profile = nothing_built();
-    BuildResult { answer, profile }
-}
-
-// The machine of a rule that passes the check and has at most eight states.
-fn build_small(rule: Rule) -> BuildResult
+// The machine of a rule that passes the check and has at most eight states; or refused where it has
+// more than 512 mappings (34).
+fn build_small(rule: Rule) -> Result<Profile, Refusal>
     requires { Small rule }
     ensures { build_outcome result ≡ build_of rule }
 {
     let n = rule.n;
     let start = mappings::pack(mappings::identity(n));
     let table = keys::number_keys(&rule.targets, Kind::Mappings, rule.k, start);
-    let numbered = table.answer;
-    match numbered {
-        Numbering::Over => refuse_rule(34),
-        Numbering::Whole(count) => {
-            let mappings = table.keys;
-            let next = table.next;
-            let answer = BuildAnswer::Accepted(count as u16);
-            let profile = Profile {
-                n,
-                k: rule.k,
-                initials: rule.initials as u8,
-                finals: rule.finals as u8,
-                count: count as u16,
-                mappings,
-                next,
-            };
-            BuildResult { answer, profile }
-        }
-    }
+    let Some(count) = table.count else {
+        return Err(Refusal::TooManyMappings);
+    };
+    let mappings = table.keys;
+    let next = table.next;
+    Ok(Profile {
+        n,
+        k: rule.k,
+        initials: rule.initials as u8,
+        finals: rule.finals as u8,
+        count: count as u16,
+        mappings,
+        next,
+    })
 }
 
-// Checks and builds a rule, which may be any value.
-pub fn build(rule: Rule) -> BuildResult
+// Checks and builds a rule, which may be any value; or refused, with 33 where it has more than eight
+// states.
+pub fn build(rule: Rule) -> Result<Profile, Refusal>
     ensures { build_outcome result ≡ build_of rule }
 {
-    let checked = rulecheck::check_rule(rule);
-    match checked {
-        Answer::Refused(number) => refuse_rule(number),
-        Answer::Accepted => {
-            if mappings::STATES < rule.n as usize {
-                return refuse_rule(33);
-            }
-            build_small(rule)
-        }
+    rulecheck::check_rule(rule)?;
+    if mappings::STATES < rule.n as usize {
+        return Err(Refusal::TooManyStates);
     }
-}
-
-fn refuse_chunk(number: u8) -> RunResult
-    ensures { run_outcome result ≡ refused_run number }
-{
-    let answer = Answer::Refused(number);
-    let masks = [0u8; mappings::STATES];
-    let mapping = Mapping { masks };
-    RunResult { answer, mapping }
+    build_small(rule)
 }
 
 // The number of the mapping that the text leads to from number 0. Whatever the table holds, an
@@ -136,12 +89,10 @@ fn walk(next: &[u16; limits::CELLS], text: &[u8]) -> u16
 {
     let cells: &[u16] = next;
     let mut number: u16 = 0;
-    let mut i: usize = 0;
-    while i < text.len() {
+    for byte in text {
         let row = (number as usize) % limits::SETS;
-        let symbol = (text[i] as usize) % limits::SYMBOLS;
+        let symbol = (*byte as usize) % limits::SYMBOLS;
         number = cells[row * limits::SYMBOLS + symbol];
-        i += 1;
     }
     number
 }
@@ -153,17 +104,15 @@ fn run_text<'a>(
     next: &'a [u16; limits::CELLS],
     packed: &'a [u64; limits::SETS],
     text: &[u8],
-) -> RunResult
+) -> Result<Mapping, Refusal>
     ensures { (p : Profile) (w : List ℕ) → Lends p k next.now packed.now → length w ≤ longest_chunk → text_of w ≡ text.now → run_outcome result ≡ run_of p w }
 {
     if chunks::has_foreign(text, k) {
-        return refuse_chunk(13);
+        return Err(Refusal::ForeignByte);
     }
     let cells: &[u64] = packed;
     let number = walk(next, text) as usize;
-    let answer = Answer::Accepted;
-    let mapping = mappings::unpack(cells[number % limits::SETS]);
-    RunResult { answer, mapping }
+    Ok(mappings::unpack(cells[number % limits::SETS]))
 }
 
 // The same of a chunk with idle marks: its text is packed once, and run from there.
@@ -172,7 +121,7 @@ fn run_marked<'a>(
     next: &'a [u16; limits::CELLS],
     packed: &'a [u64; limits::SETS],
     chunk: &[u8],
-) -> RunResult
+) -> Result<Mapping, Refusal>
     requires { length chunk.now ≤ longest_chunk }
     ensures { (p : Profile) → Lends p k next.now packed.now → run_outcome result ≡ run_of p chunk.now }
 {
@@ -188,11 +137,11 @@ pub fn run_lent<'a>(
     next: &'a [u16; limits::CELLS],
     packed: &'a [u64; limits::SETS],
     chunk: &[u8],
-) -> RunResult
+) -> Result<Mapping, Refusal>
     ensures { (p : Profile) → Lends p k next.now packed.now → run_outcome result ≡ run_of p chunk.now }
 {
     if limits::CHUNK < chunk.len() {
-        return refuse_chunk(12);
+        return Err(Refusal::LongChunk);
     }
     if marks::has_marks(chunk) {
         return run_marked(k, next, packed, chunk);
@@ -201,7 +150,7 @@ pub fn run_lent<'a>(
 }
 
 // The same on a profile by value.
-pub fn run(profile: Profile, chunk: &[u8]) -> RunResult
+pub fn run(profile: Profile, chunk: &[u8]) -> Result<Mapping, Refusal>
     ensures { run_outcome result ≡ run_of profile chunk.now }
 {
     run_lent(profile.k, &profile.next, &profile.mappings, chunk)

@@ -1,5 +1,6 @@
 -- What the parts of the text come to, over plain variables. Assumes nothing.
-use mathlib.Core.Path.{◌≡◌, sym, ap, ◌∙◌}
+use Rattle.std.proofs.Common.{Ok, Err}
+use mathlib.Core.Path.{◌≡◌, ap}
 use mathlib.Core.List.{List}
 use Prim.Native.Nat.{ℕ, ◌+◌, ◌≤◌, min}
 use native.Mathlib.Omega.{arith}
@@ -7,11 +8,11 @@ use lib.ListN.{length}
 use Rattle.base.specs.Lists.{joined}
 use Rattle.text.specs.Writing.{Wrote}
 use Rattle.text.proofs.Rooms.{most, two}
+use Rattle.base.specs.Answers.{refusal_number}
+use Rattle.base.specs.declared.Refusal.{Refusal}
 use Rattle.ruletext.specs.RuleText.{refused_text}
-use Rattle.profile.specs.declared.BuildResult.{BuildResult}
-use Rattle.profile.specs.declared.BuildAnswer.TheVariants.{Accepted, Refused}
 use Rattle.profile.specs.declared.Profile.{Profile}
-use Rattle.profile.specs.Profiles.{Building, build_means, build_outcome}
+use Rattle.profile.specs.Profiles.{Building, build_outcome}
 use Rattle.profilefile.specs.Files.{profile_in}
 use Rattle.profiletext.specs.ProfileText.{mapping_line, head_line, profile_text, text_by, text_for}
 use Rattle.profiletext.proofs.Lengths.{lines_most}
@@ -25,12 +26,9 @@ whole p count k c-is k-is room head lines =
     (λ _. most 43520 (omega (arith, lines_most p.mappings p.next k (omega arith) count (omega arith))) lines) in
     rw (c-is, k-is) at text.0
 
-module _ (f : List ℕ) (b : BuildResult) (is : build_outcome b ≡ profile_in f) where
-  text_is : text_by (build_means b.answer) b.profile ≡ text_for f
-  text_is = ap (λ (x : Building). text_by x.reply x.profile) is
+module _ (f : List ℕ) where
+  pub built_text_lem : (p : Profile) → build_outcome (Ok p) ≡ profile_in f → profile_text p ≡ text_for f
+  built_text_lem p is = ap (λ (x : Building). text_by x.reply x.profile) is
 
-  pub built_text_lem : (c : ℕ) → b.answer ≡ Accepted c → profile_text b.profile ≡ text_for f
-  built_text_lem c e = sym (ap (λ a. text_by (build_means a) b.profile) e) ∙ text_is
-
-  pub refused_text_lem : (x : ℕ) → b.answer ≡ Refused x → refused_text x ≡ text_for f
-  refused_text_lem x e = sym (ap (λ a. text_by (build_means a) b.profile) e) ∙ text_is
+  pub refused_text_lem : (e : Refusal) → build_outcome (Err e) ≡ profile_in f → refused_text (refusal_number e) ≡ text_for f
+  refused_text_lem e is = ap (λ (x : Building). text_by x.reply x.profile) is

@@ -8,7 +8,7 @@ ghost use Rattle.text.specs.Writing.{Wrote};
 ghost use Rattle.profiletext.specs.ProfileText.{mapping_line, head_line, profile_text, text_for, most_bytes};
 
 use keys::KeyNumber;
-use profile::{BuildAnswer, Profile};
+use profile::Profile;
 use subsets::SetNumber;
 
 // Room for the printed text of any profile.
@@ -48,11 +48,9 @@ fn put_lines(
     ensures { Wrote out.old start (joined (mapping_line mappings.now next.now k) count) out.new result }
 {
     let mut at = start;
-    let mut i: usize = 0;
-    while i < count {
+    for i in 0..count {
         let number = i as u16;
         at = put_line(out, at, mappings, next, k, KeyNumber(number));
-        i += 1;
     }
     at
 }
@@ -71,8 +69,8 @@ fn put_profile(out: &mut [u8], profile: Profile) -> usize
     requires { most_bytes ≤ length out.old }
     ensures { Wrote out.old 0 (profile_text profile) out.new result }
 {
-    let count = base::at_most(profile.count as usize, limits::SETS);
-    let k = base::at_most(profile.k as usize, limits::SYMBOLS);
+    let count = (profile.count as usize).min(limits::SETS);
+    let k = (profile.k as usize).min(limits::SYMBOLS);
     let mappings = profile.mappings;
     let next = profile.next;
     let lines = put_head(out, 0, count);
@@ -84,10 +82,8 @@ pub fn print_profile(file: &[u8], out: &mut [u8]) -> usize
     requires { most_bytes ≤ length out.old }
     ensures { Wrote out.old 0 (text_for file.now) out.new result }
 {
-    let building = profilefile::build_file(file);
-    let answer = building.answer;
-    match answer {
-        BuildAnswer::Accepted(_) => put_profile(out, building.profile),
-        BuildAnswer::Refused(number) => answers::put_refused(out, 0, number),
+    match profilefile::build_file(file) {
+        Ok(profile) => put_profile(out, profile),
+        Err(refusal) => answers::put_refused(out, 0, refusal.number()),
     }
 }

@@ -10,10 +10,10 @@ use lib.Dec.{eqb}
 use lib.ListN.{length, take, drop, drop_of_length-le}
 use Rattle.lines.specs.Splitting.{begins, up_to, past}
 use Rattle.lines.proofs.Splits.{begins_whole}
-use Rattle.fields.specs.declared.Number.{Number}
-use Rattle.fields.specs.declared.Number.TheVariants.{Value}
-use Rattle.fields.specs.declared.Number.TheVariants as number
-use Rattle.fields.specs.Numbers.{parse_number, number_means}
+use Rattle.std.proofs.Common.{Some, None}
+use Rattle.std.proofs.Common as code
+use Rattle.base.specs.Options.{option_of}
+use Rattle.fields.specs.Numbers.{parse_number}
 use Rattle.fields.specs.Bytes.{parse_bytes}
 use Rattle.calltext.specs.declared.Line.{Line}
 use Rattle.calltext.specs.Meaning.{malformed, verdict_word, call_in, line_in}
@@ -45,13 +45,13 @@ module _ (w : List ℕ) (long : 7 ≤ length w) (space : ℕ) (found : space ≡
   pub location_alone : length w ≤ space → recorded malformed ≡ meaning_by (locate_fields (up_to 32 (drop 7 w)) (past 32 (drop 7 w))) malformed
   location_alone l = rw (none_behind w 7 long space found l)
 
-  module _ (here : space < length w) (x : Number) (said : number_means x ≡ parse_number (take (space - 7) (drop 7 w))) where
-    pub location_malformed : x ≡ number.Malformed → recorded malformed ≡ meaning_by (locate_fields (up_to 32 (drop 7 w)) (past 32 (drop 7 w))) malformed
-    location_malformed e = rw (behind_is w 7 long space found here, says w 7 long space found here x said none (ap number_means e))
+  module _ (here : space < length w) (x : code.Option ℕ) (said : option_of x ≡ parse_number (take (space - 7) (drop 7 w))) where
+    pub location_malformed : x ≡ None → recorded malformed ≡ meaning_by (locate_fields (up_to 32 (drop 7 w)) (past 32 (drop 7 w))) malformed
+    location_malformed e = rw (behind_is w 7 long space found here, says w 7 long space found here x said none (ap option_of e))
 
-    pub location_value : (p : ℕ) → x ≡ Value p
+    pub location_value : (p : ℕ) → x ≡ Some p
         → meaning_by (locate_by (some p) (parse_bytes (drop (space + 1) w))) malformed ≡ meaning_by (locate_fields (up_to 32 (drop 7 w)) (past 32 (drop 7 w))) malformed
-    location_value p e = rw (behind_is w 7 long space found here, says w 7 long space found here x said (some p) (ap number_means e))
+    location_value p e = rw (behind_is w 7 long space found here, says w 7 long space found here x said (some p) (ap option_of e))
 
 -- ---- the line
 locate_recorded : (w : List ℕ) → begins locate_word w ≡ true → line_in w ≡ malformed

@@ -12,10 +12,9 @@ ghost use Rattle.locating.specs.Locating.{located_means};
 ghost use Rattle.questions.specs.Meaning.{is_word, locate_fields, meaning_by, text_means, text_from, Parsed};
 ghost use Rattle.questions.specs.Answers.{finding_text, spot_text};
 
+use base::Refusal;
 use calltext::Line;
 use diagnoses::Diagnosis;
-use fields::Number;
-use locating::Located;
 
 // A question. The bytes of a chunk begin at the index beside its place.
 #[derive(Clone, Copy)]
@@ -49,16 +48,12 @@ fn location(line: &[u8]) -> TextLine
 {
     let space = lines::find(line, 7, b' ');
     if line.len() <= space {
-        let parsed = Line::Malformed;
-        return TextLine::Runs(parsed);
+        return TextLine::Runs(Line::Malformed);
     }
-    let number = fields::read_number(&line[7..space]);
-    let Number::Value(place) = number else {
-        let parsed = Line::Malformed;
-        return TextLine::Runs(parsed);
+    let Some(place) = fields::read_number(&line[7..space]) else {
+        return TextLine::Runs(Line::Malformed);
     };
-    let query = Query::Locate(place, space + 1);
-    TextLine::Asks(query)
+    TextLine::Asks(Query::Locate(place, space + 1))
 }
 
 // Takes a line apart, but for the bytes that it may carry.
@@ -69,45 +64,43 @@ pub fn parse(line: &[u8]) -> TextLine
         return TextLine::Verdict;
     }
     if is_word(line, b"diagnose") {
-        let query = Query::Diagnose;
-        return TextLine::Asks(query);
+        return TextLine::Asks(Query::Diagnose);
     }
     if lines::begins_with(line, b"locate ") {
         return location(line);
     }
-    let parsed = calltext::parse(line);
-    TextLine::Runs(parsed)
+    TextLine::Runs(calltext::parse(line))
 }
 
 // Writes a diagnosis at the buffer's start and tells its length.
-pub fn put_diagnosis(out: &mut [u8], diagnosis: Diagnosis) -> usize
+pub fn put_diagnosis(out: &mut [u8], diagnosis: Result<Diagnosis, Refusal>) -> usize
     requires { answer_room ≤ length out.old }
     ensures { Wrote out.old 0 (finding_text (diagnosis_means diagnosis)) out.new result }
 {
     match diagnosis {
-        Diagnosis::Refused(number) => answers::put_refused(out, 0, number),
-        Diagnosis::Lost(place) => {
+        Ok(Diagnosis::Lost(place)) => {
             let numbers = [place as u64];
             answers::put_line(out, 0, b"lost", &numbers)
         }
-        Diagnosis::Open(places) => {
+        Ok(Diagnosis::Open(places)) => {
             let numbers = [places as u64];
             answers::put_line(out, 0, b"open", &numbers)
         }
+        Err(refusal) => answers::put_refused(out, 0, refusal.number()),
     }
 }
 
 // Writes what was located at the buffer's start and tells its length.
-pub fn put_located(out: &mut [u8], located: Located) -> usize
+pub fn put_located(out: &mut [u8], located: Result<Option<u32>, Refusal>) -> usize
     requires { answer_room ≤ length out.old }
     ensures { Wrote out.old 0 (spot_text (located_means located)) out.new result }
 {
     match located {
-        Located::Refused(number) => answers::put_refused(out, 0, number),
-        Located::After(bytes) => {
+        Ok(Some(bytes)) => {
             let numbers = [bytes as u64];
             answers::put_line(out, 0, b"after", &numbers)
         }
-        Located::Nowhere => text::put_bytes(out, 0, b"nowhere\n"),
+        Ok(None) => text::put_bytes(out, 0, b"nowhere\n"),
+        Err(refusal) => answers::put_refused(out, 0, refusal.number()),
     }
 }

@@ -1,5 +1,8 @@
 -- One turn of each loop, and each way out of the definitions that the functions are held to.
 -- Assumes nothing.
+use Rattle.std.proofs.Common as code
+use Rattle.std.proofs.Common.{Ok, Err, Some, None}
+use Rattle.std.specs.Option.{is_some}
 use mathlib.Core.Path.{◌≡◌, refl, sym, ap, ap₂, ◌∙◌}
 use mathlib.Core.Bool.{Bool, true, false, cond, not, ◌&&◌}
 use mathlib.Core.List.{List}
@@ -11,7 +14,8 @@ use lib.Bits.{bit_or}
 use lib.Dec.{ltb, eqb}
 use lib.ListN.{length, get_or}
 use borrow.Author.Tests.{eqb-true, eqb-false, eq-eqb, ne_eqb, lt-ltb, le-ltb}
-use Rattle.base.specs.Answers.{answer_number}
+use Rattle.base.specs.declared.Refusal.{Refusal}
+use Rattle.base.specs.Answers.{refusal_number}
 use Rattle.base.proofs.Totals.{total_more}
 use Rattle.base.specs.Lists.{list_from}
 use Rattle.base.specs.Options.{is_none}
@@ -29,21 +33,17 @@ use Rattle.masks.specs.declared.StateNumber.{StateNumber}
 use Rattle.masks.specs.Turns.{rank}
 use Rattle.masks.proofs.Turns.{bit_lt, rank_most}
 use Rattle.base.proofs.Tests.{zero_one}
-use Rattle.base.specs.declared.Answer.{Answer}
-use Rattle.base.specs.declared.Answer.TheVariants as check
 use Rattle.rulecheck.specs.Checking.{rule_number}
 use Rattle.subsets.specs.Sets.{too_many}
-use Rattle.subsets.specs.declared.Numbering.TheVariants.{Whole, Over}
 use Rattle.subsets.specs.declared.SetTable.{SetTable}
 use Rattle.subsets.specs.mirror.Answer.{table_outcome, table_of}
 use Rattle.delegates.specs.Claims.{starts_in}
-use Rattle.build.specs.declared.BuildAnswer.TheVariants as build
 use Rattle.build.proofs.Numbered.{not_over, is_over}
-use Rattle.build.specs.declared.BuildResult.{BuildResult}
-use Rattle.build.specs.mirror.Building.{accepted, refused, build_means, sets, built_of, no_built, Outcome, build_outcome, build_of}
+use Rattle.build.specs.declared.Built.{Built}
+use Rattle.build.specs.mirror.Building.{accepted, refused, sets, built_of, no_built, Outcome, build_outcome, build_of}
 use Rattle.calls.specs.Calls.{install_number}
 use Rattle.calls.proofs.Conditions.{install_number_lem}
-use Rattle.reducing.specs.Reducing.{Reducing, refused_by, reducing_by, reduce_of}
+use Rattle.reducing.specs.Reducing.{Reducing, reduce_outcome, reducing_by, reduce_of}
 use Rattle.reducing.proofs.Law.{few_install, reduce_law}
 use Rattle.reducing.specs.Reduced.{gather, delegated, renamed, row_of, targets_of, cell_in, reduced_by, kept_of, own_list, reached_of, chosen_cell, chosen_of, list_in, kept_in, reduced_of}
 
@@ -151,65 +151,55 @@ pub made_of : (r : Rule) (d : List ℕ) (stay n x i f : ℕ) (t : List ℕ) → 
 made_of r d stay n x i f t es en ex ei ef et = rw (en, ei, ex, ef, et, es)
 
 -- ---- `few_sets`
-module _ (ts : List ℕ) (n k : ℕ) (t : SetTable) (is : table_outcome t ≡ table_of ts n k) where
-  pub sets_fit : (c : ℕ) → t.answer ≡ Whole c → true ≡ not (too_many ts n k)
-  sets_fit c e = sym (ap not (not_over ts n k t is c e))
-
-  pub sets_over : t.answer ≡ Over → false ≡ not (too_many ts n k)
-  sets_over e = sym (ap not (is_over ts n k t is e))
+module _ (ts : List ℕ) (n k : ℕ) (o : code.Option SetTable) (is : table_outcome o ≡ table_of ts n k) where
+  pub sets_few : (p : code.Option SetTable) → o ≡ p → is_some p ≡ not (too_many ts n k)
+  sets_few (Some t) e = sym (ap not (not_over ts n k o is t e))
+  sets_few None e = sym (ap not (is_over ts n k o is e))
 
 -- ---- `reduce`
-reducing_some : (r : Rule) (number : ℕ) → install_number r ≡ some number → refused_by number ≡ reduce_of r
-reducing_some r number e = sym (ap (λ (o : Option ℕ). reducing_by o (reduced_of r)) e)
+module _ (r : Rule) where
+  reducing_some : (e : Refusal) → install_number r ≡ some (refusal_number e) → reduce_outcome (Err e) ≡ reduce_of r
+  reducing_some e is = sym (ap (λ (o : Option ℕ). reducing_by o (reduced_of r)) is)
 
-module _ (r : Rule) (x : Answer) (said : answer_number x ≡ rule_number r) where
-  pub refused_check : (number : ℕ) (out : Reducing) → x ≡ check.Refused number → out ≡ refused_by number → out ≡ reduce_of r
-  refused_check number out e is =
-      let there : rule_number r ≡ some number = sym said ∙ ap answer_number e in
-      is ∙ reducing_some r number (install_number_lem r ∙ rw there)
+  pub refused_check : (e : Refusal) → rule_number r ≡ some (refusal_number e) → reduce_outcome (Err e) ≡ reduce_of r
+  refused_check e is = reducing_some e (install_number_lem r ∙ rw is)
 
-  module _ (passed : x ≡ check.Accepted) (b : BuildResult) (told : build_outcome b ≡ build_of r) where
-    no_number : rule_number r ≡ none
-    no_number = sym said ∙ ap answer_number passed
-
-    pub refused_build_lem : (number : ℕ) (out : Reducing) → b.answer ≡ build.Refused number → out ≡ refused_by number → out ≡ reduce_of r
+  module _ (passed : rule_number r ≡ none) where
+    pub refused_build_lem : (e : Refusal) → build_outcome (Err e) ≡ build_of r → reduce_outcome (Err e) ≡ reduce_of r
     unfolding build_of
-    refused_build_lem number out e is = of (too_many r.targets r.n r.k) refl told
+    refused_build_lem e told = of (too_many r.targets r.n r.k) refl told
       where
         of : (t : Bool) → too_many r.targets r.n r.k ≡ t
-            → build_outcome b ≡ cond t (record { answer = refused 9; built = no_built }) (record { answer = accepted (length (sets r)) (starts_in r).startcount; built = built_of r })
-            → out ≡ reduce_of r
+            → build_outcome (Err e) ≡ cond t (record { answer = refused 9; built = no_built }) (record { answer = accepted (length (sets r)) (starts_in r).startcount; built = built_of r })
+            → reduce_outcome (Err e) ≡ reduce_of r
         of true t z =
-            let a : build_means b.answer ≡ refused 9 = ap (λ (y : Outcome). y.answer) z in
-            let y : refused number ≡ refused 9 = sym (ap build_means e) ∙ a in
-            let nine : number ≡ 9 = cc in
-            is ∙ reducing_some r number (install_number_lem r ∙ rw (no_number, t, nine))
+            let a : refused (refusal_number e) ≡ refused 9 = ap (λ (y : Outcome). y.answer) z in
+            let nine : refusal_number e ≡ 9 = cc in
+            reducing_some e (install_number_lem r ∙ rw (passed, t, nine))
         of false t z =
-            let a : build_means b.answer ≡ accepted (length (sets r)) (starts_in r).startcount = ap (λ (y : Outcome). y.answer) z in
-            let y : refused number ≡ accepted (length (sets r)) (starts_in r).startcount = sym (ap build_means e) ∙ a in
+            let a : refused (refusal_number e) ≡ accepted (length (sets r)) (starts_in r).startcount = ap (λ (y : Outcome). y.answer) z in
             zero_one cc
 
-    pub accepted_build : (s m : ℕ) (list : List ℕ) (made : Rule) (installs : Bool) → b.answer ≡ build.Accepted s m
-        → list ≡ chosen_of b.built.delegates (reached_of r.targets r.initials)
+    pub accepted_build : (b : Built) (list : List ℕ) (made : Rule) (installs : Bool) → build_outcome (Ok b) ≡ build_of r
+        → list ≡ chosen_of b.delegates (reached_of r.targets r.initials)
         → made ≡ reduced_by r list (kept_of r.targets list r.initials)
         → installs ≡ not (too_many made.targets made.n made.k)
-        → record { number = none; installs = installs; rule = made } ≡ reduce_of r
+        → reduce_outcome (Ok (record { installs = installs; rule = made })) ≡ reduce_of r
     unfolding build_of list_in kept_in
-    accepted_build s m list made installs e chosen is few = of (too_many r.targets r.n r.k) refl told
+    accepted_build b list made installs told chosen is few = of (too_many r.targets r.n r.k) refl told
       where
         of : (t : Bool) → too_many r.targets r.n r.k ≡ t
-            → build_outcome b ≡ cond t (record { answer = refused 9; built = no_built }) (record { answer = accepted (length (sets r)) (starts_in r).startcount; built = built_of r })
-            → record { number = none; installs = installs; rule = made } ≡ reduce_of r
+            → build_outcome (Ok b) ≡ cond t (record { answer = refused 9; built = no_built }) (record { answer = accepted (length (sets r)) (starts_in r).startcount; built = built_of r })
+            → reduce_outcome (Ok (record { installs = installs; rule = made })) ≡ reduce_of r
         of true t z =
-            let a : build_means b.answer ≡ refused 9 = ap (λ (y : Outcome). y.answer) z in
-            let y : accepted s m ≡ refused 9 = sym (ap build_means e) ∙ a in
+            let a : accepted b.setcount b.startcount ≡ refused 9 = ap (λ (y : Outcome). y.answer) z in
             zero_one cc
         of false t z =
-            let d : b.built.delegates ≡ (starts_in r).delegates = ap (λ (y : Outcome). y.built.delegates) z in
+            let d : b.delegates ≡ (starts_in r).delegates = ap (λ (y : Outcome). y.built.delegates) z in
             let l : list ≡ chosen_of (starts_in r).delegates (reached_of r.targets r.initials) =
             chosen ∙ ap (λ (y : List ℕ). chosen_of y (reached_of r.targets r.initials)) d in
             let same : made ≡ reduced_of r = is ∙ ap (λ (y : List ℕ). reduced_by r y (kept_of r.targets y r.initials)) l in
-            let none_there : install_number r ≡ none = install_number_lem r ∙ rw (no_number, t) in
+            let none_there : install_number r ≡ none = install_number_lem r ∙ rw (passed, t) in
             let given : reducing_by none (reduced_of r) ≡ reduce_of r = sym (ap (λ (o : Option ℕ). reducing_by o (reduced_of r)) none_there) in
             let checked : rule_number made ≡ none = ap rule_number (same ∙ ap (λ (y : Reducing). y.rule) given) ∙ (reduce_law r).checked (sym (ap (λ (y : Reducing). y.number) given)) in
             let installing : installs ≡ is_none (install_number made) = few ∙ sym (few_install made checked) in

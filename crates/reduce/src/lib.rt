@@ -12,15 +12,13 @@ ghost use Rattle.subsets.specs.Sets.{too_many};
 ghost use Rattle.delegates.specs.mirror.Classes.{first_from};
 ghost use Rattle.delegates.specs.Alike.{delegate_in, of_delegate};
 ghost use Rattle.reducing.specs.Reduced.{delegated as delegatedOf, onward as onwardOf, kept_of, own_list, reached_of, chosen_cell, chosen_of, renamed as renamedOf, row_of, targets_of, cell_in, reduced_by};
-ghost use Rattle.reducing.specs.Reducing.{reduce_outcome, reduce_of, refused_by};
+ghost use Rattle.reducing.specs.Reducing.{reduce_outcome, reduce_of};
 
 use automaton::Rule;
-use base::Answer;
-use build::BuildAnswer;
+use base::Refusal;
 use delegates::DelegateAnswer;
 use masks::StateNumber;
-use reducing::ReduceResult;
-use subsets::Numbering;
+use reducing::Reduced;
 
 // The set of the delegate of state q, which is empty where it has none.
 fn delegate_set(delegates: &[u8; limits::STATES], q: StateNumber) -> u32
@@ -39,12 +37,10 @@ fn delegated(delegates: &[u8; limits::STATES], set: u32) -> u32
     ensures { result ≡ delegatedOf delegates.now set }
 {
     let mut out: u32 = 0;
-    let mut q: u8 = 0;
-    while q < limits::MOST_STATES {
+    for q in 0..limits::MOST_STATES {
         if masks::member(set, StateNumber(q)) {
             out = masks::union(out, delegate_set(delegates, StateNumber(q)));
         }
-        q += 1;
     }
     out
 }
@@ -54,11 +50,9 @@ fn onward(targets: &[u32; limits::TARGETS], delegates: &[u8; limits::STATES], se
     ensures { result ≡ onwardOf targets.now delegates.now set }
 {
     let mut found: u32 = 0;
-    let mut s: u8 = 0;
-    while s < limits::MOST_SYMBOLS {
+    for s in 0..limits::MOST_SYMBOLS {
         let reached = automaton::successor(targets, set, s);
         found = masks::union(found, delegated(delegates, reached));
-        s += 1;
     }
     masks::union(set, found)
 }
@@ -69,14 +63,12 @@ fn kept(targets: &[u32; limits::TARGETS], delegates: &[u8; limits::STATES], init
     ensures { result ≡ kept_of targets.now delegates.now initials }
 {
     let mut set = delegated(delegates, initials);
-    let mut i: usize = 0;
-    while i < limits::STATES {
+    for _round in 0..limits::STATES {
         let more = onward(targets, delegates, set);
         if more == set {
             return set;
         }
         set = more;
-        i += 1;
     }
     set
 }
@@ -86,10 +78,8 @@ fn own_list() -> [u8; limits::STATES]
     ensures { result ≡ own_list }
 {
     let mut list = [0u8; limits::STATES];
-    let mut q: usize = 0;
-    while q < limits::STATES {
-        list[q] = q as u8;
-        q += 1;
+    for (q, delegate) in list.iter_mut().enumerate() {
+        *delegate = q as u8;
     }
     list
 }
@@ -111,14 +101,12 @@ fn lowest(delegates: &[u8; limits::STATES], reached: u32, q: StateNumber, d: u8)
     requires { q.0 < most_states }
     ensures { result ≡ first_from (λ p. has reached p && eqb (get_or delegates.now p 0) d) 0 q.0 }
 {
-    let mut p: u8 = 0;
-    while p < q.0 {
+    for p in 0..q.0 {
         if has_delegate(delegates, reached, StateNumber(p), d) {
             return p;
         }
-        p += 1;
     }
-    p
+    q.0
 }
 
 // What stands for the state q: the lowest reached state with its delegate; none where it has none,
@@ -142,10 +130,8 @@ fn chosen_list(delegates: &[u8; limits::STATES], reached: u32) -> [u8; limits::S
     ensures { result ≡ chosen_of delegates.now reached }
 {
     let mut list = [0u8; limits::STATES];
-    let mut q: usize = 0;
-    while q < limits::STATES {
-        list[q] = chosen_cell(delegates, reached, StateNumber(q as u8));
-        q += 1;
+    for (q, delegate) in list.iter_mut().enumerate() {
+        *delegate = chosen_cell(delegates, reached, StateNumber(q as u8));
     }
     list
 }
@@ -169,12 +155,10 @@ fn count(set: u32, q: u8) -> u8
     ensures { result ≡ rank set q }
 {
     let mut out: u8 = 0;
-    let mut p: u8 = 0;
-    while p < q {
+    for p in 0..q {
         if masks::member(set, StateNumber(p)) {
             out += 1;
         }
-        p += 1;
     }
     out
 }
@@ -185,13 +169,11 @@ fn renamed(kept: u32, set: u32) -> u32
 {
     let both = kept & set;
     let mut out: u32 = 0;
-    let mut q: u8 = 0;
-    while q < limits::MOST_STATES {
+    for q in 0..limits::MOST_STATES {
         if masks::member(both, StateNumber(q)) {
             let new = count(kept, q);
             out = masks::union(out, masks::singleton(StateNumber(new)));
         }
-        q += 1;
     }
     out
 }
@@ -228,12 +210,10 @@ fn targets_of(
     ensures { result ≡ targets_of targets.now delegates.now kept p s }
 {
     let mut out: u32 = 0;
-    let mut q: u8 = 0;
-    while q < limits::MOST_STATES {
+    for q in 0..limits::MOST_STATES {
         if masks::member(kept, StateNumber(q)) {
             out = masks::union(out, row_set(targets, delegates, kept, StateNumber(q), p, s));
         }
-        q += 1;
     }
     out
 }
@@ -264,10 +244,8 @@ fn table_of(
     ensures { result ≡ list_from 0 target_cells (cell_in targets.now delegates.now kept) }
 {
     let mut table = [0u32; limits::TARGETS];
-    let mut cell: usize = 0;
-    while cell < limits::TARGETS {
-        table[cell] = cell_of(targets, delegates, kept, cell);
-        cell += 1;
+    for (cell, mask) in table.iter_mut().enumerate() {
+        *mask = cell_of(targets, delegates, kept, cell);
     }
     table
 }
@@ -304,53 +282,21 @@ fn few_sets(rule: Rule) -> bool
     ensures { result ≡ not (too_many rule.targets rule.n rule.k) }
 {
     let targets = rule.targets;
-    let table = subsets::number_sets(&targets, rule.n, rule.k);
-    let numbered = table.answer;
-    match numbered {
-        Numbering::Whole(_) => true,
-        Numbering::Over => false,
-    }
+    subsets::number_sets(&targets, rule.n, rule.k).is_some()
 }
 
-// Refused with that number.
-fn refuse(number: u8) -> ReduceResult
-    ensures { reduce_outcome result ≡ refused_by number }
-{
-    let rule = rulefile::no_rule();
-    ReduceResult {
-        answer: Answer::Refused(number),
-        installs: false,
-        rule,
-    }
-}
-
-// The rule reduced, and whether the result installs; or zeros, and the number with which the rule's
-// own installation is refused.
-pub fn reduce(rule: Rule) -> ReduceResult
+// The rule reduced, and whether the result installs; or why the rule's own installation is refused.
+pub fn reduce(rule: Rule) -> Result<Reduced, Refusal>
     ensures { reduce_outcome result ≡ reduce_of rule }
 {
-    let checked = rulecheck::check_rule(rule);
-    match checked {
-        Answer::Refused(number) => refuse(number),
-        Answer::Accepted => {
-            let result = build::build_rule(rule);
-            let answer = result.answer;
-            match answer {
-                BuildAnswer::Refused(number) => refuse(number),
-                BuildAnswer::Accepted(_, _) => {
-                    let built = result.built;
-                    let delegates = built.delegates;
-                    let old = rule.targets;
-                    let list = list_of(&old, &delegates, rule.initials);
-                    let made = reduced(rule, &list);
-                    let installs = few_sets(made);
-                    ReduceResult {
-                        answer: Answer::Accepted,
-                        installs,
-                        rule: made,
-                    }
-                }
-            }
-        }
-    }
+    rulecheck::check_rule(rule)?;
+    let built = build::build_rule(rule)?;
+    let delegates = built.delegates;
+    let old = rule.targets;
+    let list = list_of(&old, &delegates, rule.initials);
+    let made = reduced(rule, &list);
+    Ok(Reduced {
+        installs: few_sets(made),
+        rule: made,
+    })
 }

@@ -4,17 +4,18 @@
 --
 --   Reducing        what reducing answers: the number, or none; a rule; and whether that rule
 --                   installs: its installation is accepted
---   reduce_outcome  what the code's result stands for
 --   refused_by number  a refusal, with zeros
+--   reduce_outcome  what each case of the code's result stands for
 --   reduce_of r     what reducing the rule r answers
-use Rattle.std.specs.Prelude.{Bool, false, ℕ}
+use Rattle.std.specs.Prelude.{Result, Ok, Err, Bool, false, ℕ}
 use Rattle.std.proofs.Math.Option.{Option, none, some}
-use Rattle.base.specs.Answers.{answer_number}
+use Rattle.base.specs.declared.Refusal.{Refusal}
+use Rattle.base.specs.Answers.{refusal_number}
 use Rattle.base.specs.Options.{is_none}
 use Rattle.automaton.specs.declared.Rule.{Rule}
 use Rattle.ruleformat.specs.Reader.{no_rule}
 use Rattle.calls.specs.Calls.{install_number}
-use Rattle.reducing.specs.declared.ReduceResult.{ReduceResult}
+use Rattle.reducing.specs.declared.Reduced.{Reduced}
 use Rattle.reducing.specs.Reduced.{reduced_of}
 
 pub record Reducing : Type 0 where
@@ -22,11 +23,12 @@ pub record Reducing : Type 0 where
   pub installs : Bool
   pub rule : Rule
 
-abbrev pub reduce_outcome : ReduceResult → Reducing
-reduce_outcome r = record { number = answer_number r.answer; installs = r.installs; rule = r.rule }
-
 abbrev pub refused_by : ℕ → Reducing
 refused_by number = record { number = some number; installs = false; rule = no_rule }
+
+abbrev pub reduce_outcome : Result Reduced Refusal → Reducing
+reduce_outcome (Ok reduced) = record { number = none; installs = reduced.installs; rule = reduced.rule }
+reduce_outcome (Err refusal) = refused_by (refusal_number refusal)
 
 abbrev pub reducing_by : Option ℕ → Rule → Reducing
 reducing_by none r = record { number = none; installs = is_none (install_number r); rule = r }

@@ -3,14 +3,11 @@
 #![tactic(auto)]
 
 use automaton::Rule;
-use base::Answer;
 
-// An answer with the reduced rule beside it, and whether installing that rule is accepted: it can
-// have more than 512 sets though the rule it came from has not. All zeros and false where the rule
-// is refused.
+// The reduced rule, and whether installing it is accepted: it can have more than 512 sets though the
+// rule it came from has not.
 #[derive(Clone, Copy)]
-pub struct ReduceResult {
-    pub answer: Answer,
+pub struct Reduced {
     pub installs: bool,
     pub rule: Rule,
 }

@@ -8,16 +8,15 @@
 --                  after the last one
 --   ReplayReply    what replaying a record answers: what a verdict reports, or that a line is
 --                  malformed
---   replay_means r      what each case of the code's answer says
+--   replay_means r      what the code's answer says
 --   replay_of s    the right answer for a record that says s
-use Rattle.std.specs.Prelude.{List, [], ◌∷◌, ℕ, suc}
+use Rattle.std.specs.Prelude.{Result, Ok, Err, List, [], ◌∷◌, ℕ, suc}
 use Rattle.lines.specs.Splitting.{lines_of}
+use Rattle.calls.specs.declared.Report.{Report}
 use Rattle.calls.specs.Replies.{Reported, report_means}
 use Rattle.histories.specs.History.{report_in}
 use Rattle.calls.specs.Calls.{Call}
 use Rattle.calltext.specs.Meaning.{Meaning, again, call, malformed, line_in}
-use Rattle.replay.specs.declared.ReplayAnswer.{ReplayAnswer}
-use Rattle.replay.specs.declared.ReplayAnswer.TheVariants.{Verdict, Malformed}
 
 pub data Recorded : Type 0 where
   calls : List Call → Recorded
@@ -45,9 +44,9 @@ pub data ReplayReply : Type 0 where
   verdict : Reported → ReplayReply
   malformed_line : ℕ → ReplayReply
 
-abbrev pub replay_means : ReplayAnswer → ReplayReply
-replay_means (Verdict r) = verdict (report_means r)
-replay_means (Malformed line) = malformed_line line
+abbrev pub replay_means : Result Report ℕ → ReplayReply
+replay_means (Ok r) = verdict (report_means r)
+replay_means (Err line) = malformed_line line
 
 -- what is reported after the recorded calls: `VerdictClauses` and `ReportClauses` of
 -- crates/histories, which hold of every list, have its words

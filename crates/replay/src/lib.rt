@@ -8,13 +8,6 @@ ghost use Rattle.replay.specs.Records.{record_in, replay_means, replay_of};
 
 use calls::Report;
 
-// The verdict, or the number of the first malformed line.
-#[derive(Clone, Copy)]
-pub enum ReplayAnswer {
-    Verdict(Report),
-    Malformed(usize),
-}
-
 // Where the line after the one that ends there begins, within the text.
 fn past(end: usize, most: usize) -> usize
     ensures { result ≡ min (end + 1) most }
@@ -23,7 +16,7 @@ fn past(end: usize, most: usize) -> usize
 }
 
 // The buffer is for the bytes that a line carries.
-fn replay_by(text: &[u8], buffer: &mut [u8]) -> ReplayAnswer
+fn replay_by(text: &[u8], buffer: &mut [u8]) -> Result<Report, usize>
     requires { bytes_room ≤ length buffer.old }
     ensures result_value { replay_means result ≡ replay_of (record_in text.now) }
     ensures scratch { Scratch buffer.old buffer.new }
@@ -35,19 +28,18 @@ fn replay_by(text: &[u8], buffer: &mut [u8]) -> ReplayAnswer
         let end = lines::find(text, at, b'\n');
         let run = callrun::run_line(judge, &text[at..end], buffer);
         line += 1;
-        let answer = run.answer;
-        if calltext::is_malformed(answer) {
-            return ReplayAnswer::Malformed(line);
+        if calltext::is_malformed(run.answer) {
+            return Err(line);
         }
         judge = run.judge;
         at = past(end, text.len());
     }
-    let found = judge::ask_verdict(judge);
-    ReplayAnswer::Verdict(found)
+    Ok(judge::ask_verdict(judge))
 }
 
-// Runs the calls that the text records, a line each, and answers the verdict after them.
-pub fn replay(text: &[u8]) -> ReplayAnswer
+// Runs the calls that the text records, a line each, and answers the verdict after them, or the
+// number of the first malformed line.
+pub fn replay(text: &[u8]) -> Result<Report, usize>
     ensures { replay_means result ≡ replay_of (record_in text.now) }
 {
     let mut buffer = [0u8; limits::BYTES];

@@ -26,13 +26,16 @@
 -- `due` says that it is the answer of the words, and no other is. A proved function ends and stays within
 -- its bounds. Assumes nothing.
 -- All that they rest on stands in these files of specs/ (tests/believed):
---   base Conditions, Lists, Options, Totals; limits Limits; masks Masks; automaton Automaton,
---   Rules, Successor; rulecheck Checking, Worked; ruleformat Format, Reader, Refusals; numbering
---   Numbering, Texts; compositions Relations; mappings Mappings, Packing; keys Kinds, Tables;
---   subsets Sets, mirror/Singles; searches Search, Texts; samples Samples; compare Claims,
---   Compared, Search, Values, Worked; delegates Alike, Claims, mirror/Classes; marks Marks;
---   chunks Chunks; joins Joining; calls Calls, Replies; histories History; c_compare Claims,
---   Numbers; requests CompareFunction.
+--   base Answers, Conditions, Lists, Options, Totals; limits Limits; masks Masks; automaton
+--   Automaton, Rules, Successor; rulecheck Checking, Worked; ruleformat Format, Reader, Refusals;
+--   numbering Numbering, Texts; compositions Relations; mappings Mappings, Packing; keys Kinds,
+--   Tables; subsets Sets, mirror/Singles; searches Search, Texts; samples Samples; compare
+--   Claims, Compared, Search, Values, Worked; delegates Alike, Claims, mirror/Classes; marks
+--   Marks; chunks Chunks; joins Joining; calls Calls, Replies; histories History; c_compare
+--   Claims, Numbers; requests CompareFunction.
+use Rattle.base.specs.declared.Refusal.{Refusal}
+use Rattle.std.proofs.Common as code
+use Rattle.std.proofs.Common.{Result}
 use mathlib.Core.Path.{◌≡◌, refl, sym, ap, ◌∙◌, subst}
 use mathlib.Core.Logic.{◌↔◌, ◌⊎◌, inl, inr, ⊎_elim}
 use mathlib.Core.Bool.{true}
@@ -55,9 +58,9 @@ use Rattle.histories.proofs.EveryList.{every_list}
 use Rattle.numbering.specs.Texts.{Lex}
 use Rattle.searches.specs.Texts.{longest_text}
 use Rattle.samples.specs.Samples.{set_after}
+use Rattle.compare.specs.declared.Apart as declared
 use Rattle.compare.specs.declared.Which.{Which}
 use Rattle.compare.specs.declared.Which.TheVariants.{First, Second}
-use Rattle.compare.specs.declared.CompareResult.{CompareResult}
 use Rattle.compare.specs.Compared.{Only, Apart, FirstApart, Same, ManyPairs, pair_number, Searched, Comparison, apart, same, refused, other_rule, exchanged, of_rule, Due}
 use Rattle.compare.specs.Values.{no_text, Outcome, compare_outcome, Carries, outcome_of, comparison_in}
 use Rattle.compare.specs.Values as values
@@ -180,7 +183,7 @@ zeros one two x = ap outcome_of
 pub asks_nothing : (one two : Rule) → AsksCompare one two
 asks_nothing one two = tt
 
-pub allowed : (one two : Rule) (r : CompareResult)
+pub allowed : (one two : Rule) (r : Result (code.Option declared.Apart) Refusal)
     → MayCompare one two r ↔ (a : Comparison) × Due one two a × Carries a (compare_outcome r)
 allowed one two r = ((λ m. (value one two (compare_outcome r)).0 m.1), λ h. ((one, (two, tt)), (value one two (compare_outcome r)).1 h))
 

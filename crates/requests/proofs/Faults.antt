@@ -25,19 +25,21 @@
 -- believed: `faulted` says that after every list it is the words', and no other answer is. A proved
 -- function ends and stays within its bounds. Assumes nothing.
 -- All that they rest on stands in these files of specs/ (tests/believed):
---   base Conditions, Lists, Options, Totals; limits Limits; masks Masks, Turns; automaton
---   Automaton, Rules, Successor; rulecheck Checking, Worked; ruleformat Reader; numbering
---   Numbering; subsets Sets, mirror/Singles; delegates Alike, Claims, mirror/Classes; live
---   Continued, Live; chunks Chunks; calls Calls; executions Executions; histories History; trays
---   Boards, Calls, Claims, Replies, Rows, Sizes, Worked, mirror/Steps; faults Faulting, First;
---   trayhistories Claims, Functions, History, Worked; trayfaults Faults, Functions, Worked;
---   c_trays Numbers; c_faults Numbers; requests FaultFunctions, TrayFunctions.
+--   base Answers, Conditions, Lists, Options, Totals; limits Limits; masks Masks, Turns;
+--   automaton Automaton, Rules, Successor; rulecheck Checking, Worked; ruleformat Reader;
+--   numbering Numbering; subsets Sets, mirror/Singles; delegates Alike, Claims, mirror/Classes;
+--   live Continued, Live; chunks Chunks; calls Calls; executions Executions; histories History;
+--   trays Boards, Calls, Claims, Replies, Rows, Sizes, Worked, mirror/Steps; faults Faulting,
+--   First; trayhistories Claims, Functions, History, Worked; trayfaults Faults, Functions,
+--   Worked; c_trays Numbers; c_faults Numbers; requests FaultFunctions, TrayFunctions.
+use Rattle.std.proofs.Common.{Result}
 use mathlib.Core.Path.{◌≡◌, refl, sym, ap, ◌∙◌}
 use mathlib.Core.Logic.{◌↔◌}
 use mathlib.Core.List.{List}
 use mathlib.Core.Option.{none}
 use Prim.Native.Nat.{ℕ, ◌≤◌}
 use Rattle.executions.specs.Executions.{Execution}
+use Rattle.base.specs.declared.Refusal.{Refusal}
 use Rattle.trays.specs.declared.Tray.{Tray}
 use Rattle.trays.specs.Replies.{Reply, says_yes, says_no}
 use Rattle.trays.specs.Calls.{Call}
@@ -124,7 +126,7 @@ stays = (trayfaults.claims).stays
 -- `fault`, on a tray that a list of calls through the tray's functions left, says what the list
 -- says, and asks nothing.
 pub fault_says : (h : List Call) (rs : List Reply) (t : Tray) → Execution tray_library h rs t
-    → (r : TrayFault) → MayFault t r → Faulted h (fault_means r)
+    → (r : Result TrayFault Refusal) → MayFault t r → Faulted h (fault_means r)
 fault_says = (fault_functions.function_claims).fault
 
 pub fault_asks : (t : Tray) → fault_reads.Asked tt (t, tt)

@@ -40,6 +40,9 @@
 --   formtrip Claims; formfile Files; formtext FormText, Worked; wordfields Claims, Words;
 --   formline Claims, Lines, Worked; tabletext Answers, Worked; formstream Texts; c_form Claims,
 --   Numbers; requests FormFunctions.
+use Rattle.base.specs.declared.Refusal.{Refusal}
+use Rattle.forms.specs.declared.Table.{Table}
+use Rattle.std.proofs.Common.{Result}
 use mathlib.Core.Path.{◌≡◌, ap, ◌∙◌, refl}
 use mathlib.Core.Logic.{◌↔◌, ◌⊎◌, ⊎_elim}
 use mathlib.Core.Bool.{cond}
@@ -60,8 +63,6 @@ use Rattle.calls.specs.Calls.{Call, installs, install_number, load_number}
 use Rattle.histories.specs.History.{rule_there}
 use Rattle.histories.specs.Claims.{judge_after}
 use Rattle.forms.specs.declared.Form.{Form}
-use Rattle.forms.specs.declared.FormResult.{FormResult}
-use Rattle.forms.specs.declared.BackResult.{BackResult}
 use Rattle.forms.specs.Form.{cell, equal_cells, failure_of, kept_mask, form_of}
 use Rattle.forms.specs.Back.{rank, kept_count, back_number, table_of, no_table, back_by, back_outcome, back_of}
 use Rattle.forms.specs.Claims.{differences, bits, IsTable, Wrong, many_sets_lem, many_symbols, Alike}
@@ -236,10 +237,10 @@ not_read = (forms.claims).not_read
 pub asks_nothing : (j : Judge) (f : Form) → AsksForm j × AsksTable f
 asks_nothing j f = (tt, tt)
 
-pub allowed : (j : Judge) (r : FormResult) → MayForm j r ↔ (made_outcome r ≡ made_of j)
+pub allowed : (j : Judge) (r : Result Form Refusal) → MayForm j r ↔ (made_outcome r ≡ made_of j)
 allowed j r = ((λ m. m.1), λ e. ((j, tt), e))
 
-pub allowed_back : (f : Form) (r : BackResult) → MayTable f r ↔ (back_outcome r ≡ back_of f)
+pub allowed_back : (f : Form) (r : Result Table Refusal) → MayTable f r ↔ (back_outcome r ≡ back_of f)
 allowed_back f r = ((λ m. m.1), λ e. ((f, tt), e))
 
 -- and so may the functions that C links, in numbers of which nothing is lost:

@@ -25,10 +25,10 @@
 -- need not be believed: `diagnosed` and `spotted` say that after every list they are the words', and
 -- no other answer is. A proved function ends and stays within its bounds. Assumes nothing.
 -- All that they rest on stands in these files of specs/ (tests/believed):
---   base Conditions, Lists, Options, Totals; limits Limits; masks Masks; automaton Automaton,
---   Rules, Successor; rulecheck Checking; ruleformat Format, Reader, Refusals; numbering
---   Numbering; subsets Sets, mirror/Singles; delegates Alike, Claims, mirror/Classes; live
---   Continued; build mirror/Building; marks Marks; walks mirror/Steps; chunks Chunks,
+--   base Answers, Conditions, Lists, Options, Totals; limits Limits; masks Masks; automaton
+--   Automaton, Rules, Successor; rulecheck Checking; ruleformat Format, Reader, Refusals;
+--   numbering Numbering; subsets Sets, mirror/Singles; delegates Alike, Claims, mirror/Classes;
+--   live Continued; build mirror/Building; marks Marks; walks mirror/Steps; chunks Chunks,
 --   mirror/Walks; board Boards; joins Joining; calls Calls, Replies, mirror/Steps; diagnoses
 --   Diagnosing; locating Locating, Positions, mirror/Pruning; executions Executions; histories
 --   Claims, Functions, History; losses Functions, Losses, Spots; c_losses Numbers; requests
@@ -43,6 +43,9 @@ use contract.Lifetimes.{Lfts}
 use denote.Ref.{Bor}
 use lib.Dec.{eqb}
 use lib.ListN.{length, get_or}
+use Rattle.std.proofs.Common.{Result}
+use Rattle.std.proofs.Common as code
+use Rattle.base.specs.declared.Refusal.{Refusal}
 use Rattle.base.specs.Conditions.{FirstHolds, any_below}
 use Rattle.base.specs.Options.{is_none}
 use Rattle.base.proofs.Conditions.{first_law}
@@ -62,7 +65,6 @@ use Rattle.demands.specs.Functions.{c_library}
 use Rattle.demands.proofs.Histories.{every_execution_from_C}
 use Rattle.diagnoses.specs.declared.Diagnosis.{Diagnosis}
 use Rattle.diagnoses.specs.Diagnosing.{Finding, refused_as, lost_at, open_with, diagnosis_means, diagnosis_of}
-use Rattle.locating.specs.declared.Located.{Located}
 use Rattle.locating.specs.Locating.{Spot, refused_for, stuck_after, nowhere, located_means, locate_conditions, spot_of}
 use Rattle.live.specs.Continued.{Continued}
 use Rattle.losses.specs.Losses.{Lost, Open, Diagnosed, AcceptsNothing, AllElsewhere}
@@ -185,11 +187,11 @@ module _ (h : List Call) (p : ℕ) (w : List ℕ) where
 -- `diagnose` and `locate`, on a judge that a list of calls through the judge's functions left, say what
 -- the list says, and ask nothing.
 pub diagnose_says : (h : List Call) (rs : List Reply) (j : Judge) → Execution judge_library h rs j
-    → (r : Diagnosis) → MayDiagnose j r → Diagnosed h (diagnosis_means r)
+    → (r : Result Diagnosis Refusal) → MayDiagnose j r → Diagnosed h (diagnosis_means r)
 diagnose_says = (functions.function_claims).diagnose
 
 pub locate_says : (h : List Call) (rs : List Reply) (j : Judge) → Execution judge_library h rs j
-    → (p : ℕ) (w : List ℕ) (r : Located) → MayLocate j p w r → Spotted h p w (located_means r)
+    → (p : ℕ) (w : List ℕ) (r : Result (code.Option ℕ) Refusal) → MayLocate j p w r → Spotted h p w (located_means r)
 locate_says = (functions.function_claims).locate
 
 pub diagnose_asks : (j : Judge) → diagnose_reads.Asked tt (j, tt)

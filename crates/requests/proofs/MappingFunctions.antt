@@ -28,7 +28,7 @@ use Rattle.histories.specs.Claims.{judge_after}
 use Rattle.histories.proofs.EveryList.{every_list}
 use Rattle.histories.proofs.Refinement.{lent}
 use Rattle.capi.specs.declared.VerdictNumbers.{VerdictNumbers}
-use Rattle.capi.specs.Numbers.{kind_of}
+use Rattle.verdicts.specs.Shown.{kind_of}
 use Rattle.demands.specs.Functions.{MayJudge}
 use Rattle.requests.specs.MappingFunctions.{MayBuild, MayRun, MayCompose, MaySay, RunEach, all_run, one_more, ComposedTo, alone, joined, SameAnswer}
 

@@ -38,6 +38,8 @@
 --   merging Claims, Languages, Merged, Merging, Worked; mergetext Answers, Claims, Lines, Worked;
 --   mergescan Scanning; mergestream Texts; c_merge Claims, Numbers; reducing Reduced, Reducing;
 --   requests MergeFunction.
+use Rattle.base.specs.declared.Refusal.{Refusal}
+use Rattle.std.proofs.Common.{Result}
 use mathlib.Core.Path.{◌≡◌, ap, ◌∙◌, refl}
 use mathlib.Core.Logic.{◌↔◌, ◌⊎◌}
 use mathlib.Core.Bool.{Bool, true, false}
@@ -71,7 +73,6 @@ use Rattle.products.specs.Claims.{Interleaved, TwoRuns}
 use Rattle.products.proofs.Claims as products
 use Rattle.merging.specs.declared.Way.{Way}
 use Rattle.merging.specs.declared.Way.TheVariants as way
-use Rattle.merging.specs.declared.MergeResult.{MergeResult}
 use Rattle.merging.specs.Languages.{Merges, MadeBy}
 use Rattle.merging.specs.Merged.{merged_of, states_of}
 use Rattle.merging.specs.Merging.{merge_conditions, merge_number, merge_outcome, merge_of, way_of}
@@ -209,7 +210,7 @@ zeros w one two = (merging_law w one two).zeros
 pub asks_nothing : (w : Way) (one two : Rule) → AsksMerge w one two
 asks_nothing w one two = tt
 
-pub allowed : (w : Way) (one two : Rule) (r : MergeResult) → MayMerge w one two r ↔ (merge_outcome r ≡ merge_of w one two)
+pub allowed : (w : Way) (one two : Rule) (r : Result Rule Refusal) → MayMerge w one two r ↔ (merge_outcome r ≡ merge_of w one two)
 allowed w one two r = ((λ m. m.1), λ e. ((w, (one, (two, tt))), e))
 
 -- and so may the function that C links, in numbers of which nothing is lost. Every number names a way:

@@ -38,6 +38,8 @@
 --   histories History; products Claims, Interleavings, Products; merging Languages, Merged,
 --   Merging, Worked; c_merge Numbers; reducing Claims, Reduced, Reducing, Worked; mergereduce
 --   Claims, MergeReduced, Trimmed, Worked; requests MergeReducedFunction.
+use Rattle.base.specs.declared.Refusal.{Refusal}
+use Rattle.std.proofs.Common.{Result}
 use mathlib.Core.Path.{◌≡◌, ap, ◌∙◌}
 use mathlib.Core.Logic.{◌↔◌, ◌⊎◌}
 use mathlib.Core.Bool.{true}
@@ -59,7 +61,6 @@ use Rattle.histories.specs.History.{rule_in, board_in, empties_in, summed_in, te
 use Rattle.products.specs.Claims.{Interleaved}
 use Rattle.merging.specs.declared.Way.{Way}
 use Rattle.merging.specs.declared.Way.TheVariants as way
-use Rattle.merging.specs.declared.MergeResult.{MergeResult}
 use Rattle.merging.specs.Languages.{merged_by, Merges}
 use Rattle.merging.specs.Merging.{merge_outcome, merge_of, way_of}
 use Rattle.reducing.specs.Reducing.{reduce_of}
@@ -197,7 +198,7 @@ zeros w one two = (merging_law w one two).zeros
 pub asks_nothing : (w : Way) (one two : Rule) → AsksMergeReduced w one two
 asks_nothing w one two = tt
 
-pub allowed : (w : Way) (one two : Rule) (r : MergeResult) → MayMergeReduced w one two r ↔ (merge_outcome r ≡ merge_reduced_of w one two)
+pub allowed : (w : Way) (one two : Rule) (r : Result Rule Refusal) → MayMergeReduced w one two r ↔ (merge_outcome r ≡ merge_reduced_of w one two)
 allowed w one two r = ((λ m. m.1), λ e. ((w, (one, (two, tt))), e))
 
 -- and so may the function that C links, in numbers of which nothing is lost. The ways have the

@@ -30,6 +30,9 @@
 --   Claims, mirror/Classes; marks Marks; chunks Chunks; joins Joining; calls Calls, Replies;
 --   histories History; reducing Claims, Reduced, Reducing, Worked; c_reduce Claims, Numbers;
 --   requests ReduceFunction.
+use Rattle.base.specs.declared.Refusal.{Refusal}
+use Rattle.reducing.specs.declared.Reduced.{Reduced}
+use Rattle.std.proofs.Common.{Result}
 use mathlib.Core.Path.{◌≡◌, sym, ap, ◌∙◌, refl}
 use mathlib.Core.Logic.{◌↔◌}
 use mathlib.Core.Bool.{true, false, cond}
@@ -50,7 +53,6 @@ use Rattle.histories.specs.History.{rule_in, board_in, empties_in, summed_in, te
 use Rattle.histories.proofs.EveryList.{every_list}
 use Rattle.fillings.specs.Filled.{Filled}
 use Rattle.fillings.proofs.Boards as boards
-use Rattle.reducing.specs.declared.ReduceResult.{ReduceResult}
 use Rattle.reducing.specs.Reducing.{Reducing, refused_by, reduce_outcome, reduce_of}
 use Rattle.reducing.specs.Worked.{few_sets, reductions, Answered}
 use Rattle.reducing.specs.Claims.{Nothing, empty_rule, Reachable, Lean, Renumbered, Due, ReduceLaw}
@@ -169,10 +171,10 @@ installs_exactly r = (reducing_law r).installs_exactly
 pub asks_nothing : (r : Rule) → AsksReduce r
 asks_nothing r = tt
 
-pub allowed : (r : Rule) (m : ReduceResult) → MayReduce r m ↔ (reduce_outcome m ≡ reduce_of r)
+pub allowed : (r : Rule) (m : Result Reduced Refusal) → MayReduce r m ↔ (reduce_outcome m ≡ reduce_of r)
 allowed r m = ((λ x. x.1), λ e. ((r, tt), e))
 
-pub allowed_due : (r : Rule) (m : ReduceResult) → MayReduce r m ↔ Due r (reduce_outcome m)
+pub allowed_due : (r : Rule) (m : Result Reduced Refusal) → MayReduce r m ↔ Due r (reduce_outcome m)
 allowed_due r m =
     let law = due r (reduce_outcome m) in ((λ x. law.0 (sym ((allowed r m).0 x))), λ d. (allowed r m).1 (sym (law.1 d)))
 

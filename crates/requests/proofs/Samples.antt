@@ -23,13 +23,18 @@
 -- that it is the answer of the words, and no other is. A proved function ends and stays within its
 -- bounds. Assumes nothing.
 -- All that they rest on stands in these files of specs/ (tests/believed):
---   base Conditions, Lists, Options, Totals; limits Limits; text Numerals; answers Answers; masks
---   Masks; automaton Automaton, Rules, Successor; rulecheck Checking, Worked; ruleformat Format,
---   Reader, Refusals, Worked; numbering Numbering, Texts; compositions Relations; mappings
---   Mappings, Packing; keys Kinds, Tables; subsets Sets, mirror/Singles; searches Search, Texts;
---   samples Claims, Samples, Search, Values, Worked; delegates Alike, Claims, mirror/Classes;
---   marks Marks; chunks Chunks; joins Joining; calls Calls, Replies; histories History; fields
---   Claims; sampletext SampleText, Worked; c_samples Claims, Numbers; requests SampleFunctions.
+--   base Answers, Conditions, Lists, Options, Totals; limits Limits; text Numerals; answers
+--   Answers; masks Masks; automaton Automaton, Rules, Successor; rulecheck Checking, Worked;
+--   ruleformat Format, Reader, Refusals, Worked; numbering Numbering, Texts; compositions
+--   Relations; mappings Mappings, Packing; keys Kinds, Tables; subsets Sets, mirror/Singles;
+--   searches Search, Texts; samples Claims, Samples, Search, Values, Worked; delegates Alike,
+--   Claims, mirror/Classes; marks Marks; chunks Chunks; joins Joining; calls Calls, Replies;
+--   histories History; fields Claims; sampletext SampleText, Worked; c_samples Claims, Numbers;
+--   requests SampleFunctions.
+use Rattle.base.specs.declared.Refusal.{Refusal}
+use Rattle.searches.specs.declared.Spelled.{Spelled}
+use Rattle.std.proofs.Common as code
+use Rattle.std.proofs.Common.{Result}
 use mathlib.Core.Path.{◌≡◌, refl, sym, ap, ◌∙◌, subst}
 use mathlib.Core.Logic.{◌↔◌, ◌⊎◌, inl, inr, ⊎_elim}
 use mathlib.Core.Bool.{true}
@@ -51,7 +56,6 @@ use Rattle.histories.specs.History.{rule_in, board_in, empties_in, summed_in, te
 use Rattle.numbering.specs.Texts.{Lex}
 use Rattle.samples.specs.declared.Wish.{Wish}
 use Rattle.samples.specs.declared.Wish.TheVariants as wish
-use Rattle.samples.specs.declared.SampleResult.{SampleResult}
 use Rattle.samples.specs.Samples.{Wished, First, set_after, ManySets, Searched, Sample, text, nothing, refused, Due}
 use Rattle.samples.specs.Values.{longest_sample, none_there, no_text, Outcome, sample_outcome, Carries, outcome_of, sample_in}
 use Rattle.samples.specs.Values as values
@@ -151,7 +155,7 @@ zeros r wished x = ap outcome_of
 pub asks_nothing : (r : Rule) (wished : Wish) → AsksSample r wished
 asks_nothing r wished = tt
 
-pub allowed : (r : Rule) (wished : Wish) (s : SampleResult)
+pub allowed : (r : Rule) (wished : Wish) (s : Result (code.Option Spelled) Refusal)
     → MaySample r wished s ↔ (a : Sample) × Due r wished a × Carries a (sample_outcome s)
 allowed r wished s = ((λ m. (value r wished (sample_outcome s)).0 m.1), λ h. ((r, (wished, tt)), (value r wished (sample_outcome s)).1 h))
 

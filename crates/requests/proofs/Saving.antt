@@ -25,6 +25,8 @@
 --   board Boards; calls Calls, Replies, mirror/Steps; saved_judge Claims, Digest, Little, Saved,
 --   Worked; executions Executions; c_saved Claims, Numbers; capi Numbers; demands Functions;
 --   requests SaveFunctions.
+use Rattle.base.specs.declared.Refusal.{Refusal}
+use Rattle.std.proofs.Common.{Result}
 use mathlib.Core.Path.{◌≡◌, refl, sym, ap, ◌∙◌, subst}
 use mathlib.Core.Logic.{◌↔◌}
 use mathlib.Core.List.{List, [], ◌++◌}
@@ -42,7 +44,6 @@ use Rattle.executions.specs.Executions.{Execution}
 use Rattle.histories.proofs.Refinement.{lent}
 use Rattle.demands.specs.Functions.{c_library}
 use Rattle.saved_judge.specs.declared.Saved.{Saved}
-use Rattle.saved_judge.specs.declared.RestoreResult.{RestoreResult}
 use Rattle.saved_judge.specs.Little.{little_of}
 use Rattle.saved_judge.specs.Digest.{digest_step}
 use Rattle.saved_judge.specs.Saved.{saved_size, saved_of, restore_outcome, restore_accepted, restore_refused, restore_of}
@@ -140,7 +141,7 @@ saves j r = ((λ x. x.1), λ e. ((j, tt), e))
 pub restore_asks_nothing : (κs : Lfts 1) (b : Bor (List ℕ)) → AsksRestore κs b
 restore_asks_nothing κs b = tt
 
-pub restores : (b : List ℕ) (r : RestoreResult) → MayRestore b r ↔ (restore_outcome r ≡ restore_of b)
+pub restores : (b : List ℕ) (r : Result Judge Refusal) → MayRestore b r ↔ (restore_outcome r ≡ restore_of b)
 restores b r = ((λ x. x.4 ∙ ap restore_of x.3), λ e. (([], tt), lent b, (lent b, tt), refl, e))
 
 -- and so may those that C links, in numbers of which nothing is lost.

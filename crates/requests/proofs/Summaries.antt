@@ -35,10 +35,12 @@
 --   Refusals, Worked; numbering Numbering; compositions Bracketing, Relations; subsets Sets,
 --   mirror/Singles; delegates Alike, Claims, mirror/Classes; build mirror/Building; digests
 --   Digests, Worked; marks Marks; walks mirror/Steps; chunks Chunks, Taking, mirror/Walks; board
---   Boards; joins Claims, Joining; calls Calls, Claims, Replies, mirror/Steps; executions
---   Executions; histories Claims, Functions, History; fillings Filled; summaries Claims,
---   Summaries; summaryverdict Functions, Lists, Traces, Worked; c_summaries Numbers; capi
+--   Boards; joins Claims, Joining; calls Calls, Claims, Replies, mirror/Steps; verdicts Shown;
+--   executions Executions; histories Claims, Functions, History; fillings Filled; summaries
+--   Claims, Summaries; summaryverdict Functions, Lists, Traces, Worked; c_summaries Numbers; capi
 --   Numbers; demands Functions; requests SummaryFunctions.
+use Rattle.base.specs.declared.Refusal.{Refusal}
+use Rattle.std.proofs.Common.{Result}
 use mathlib.Core.Path.{◌≡◌, refl}
 use mathlib.Core.Logic.{◌↔◌, ◌⊎◌}
 use mathlib.Core.List.{List, ◌∷◌, flatten}
@@ -75,7 +77,6 @@ use Rattle.histories.specs.Functions.{judge_library}
 use Rattle.demands.specs.Functions.{c_library}
 use Rattle.fillings.specs.Filled.{Filled}
 use Rattle.summaries.specs.declared.Summary.{Summary}
-use Rattle.summaries.specs.declared.SummaryResult.{SummaryResult}
 use Rattle.summaries.specs.Summaries.{capped, combine, no_summary, Summarized, summary_outcome, summarize_of, conclude_of}
 use Rattle.summaries.specs.Claims.{counts_in, bytes_in, end_in, Joined, SummarizedExactly, ConcludedExactly}
 use Rattle.summaries.proofs.Claims as summaries
@@ -250,7 +251,7 @@ installs_there = (lists.list_claims).installs
 -- `summarize` and `conclude`, on a judge that a list of calls through the judge's functions left,
 -- answer so, and `combine` combines.
 pub summarize_says : (h : List Call) (rs : List Reply) (j : Judge) → Execution judge_library h rs j
-    → (number : ℕ) (w : List ℕ) (x : SummaryResult) → MaySummarize j number w x → summary_outcome x ≡ summary_there (rule_there h) number w
+    → (number : ℕ) (w : List ℕ) (x : Result Summary Refusal) → MaySummarize j number w x → summary_outcome x ≡ summary_there (rule_there h) number w
 summarize_says = (functions.function_claims).summarize
 
 pub combine_says : (a b c : Summary) → MayCombine a b c ↔ (c ≡ combine a b)

@@ -29,7 +29,8 @@ use Rattle.summaryverdict.proofs.Lists.{list_claims}
 use Rattle.summaryverdict.proofs.Gathering.{gathered_used, gathered_reports}
 use Rattle.c_summaries.specs.declared.SummaryNumbers.{SummaryNumbers}
 use Rattle.c_summaries.specs.declared.ConcludeNumbers.{ConcludeNumbers}
-use Rattle.c_summaries.specs.Numbers.{summary_shown, kind_of, conclude_shown}
+use Rattle.verdicts.specs.Shown.{kind_of}
+use Rattle.c_summaries.specs.Numbers.{summary_shown, conclude_shown}
 use Rattle.requests.specs.SummaryFunctions.{MaySummarizeC, MayCombineC, MayConcludeC, SummarizedOnC}
 
 -- ---- what each function may return

@@ -33,10 +33,10 @@
 -- h is any list of calls, the last first. A proved function ends and stays within its bounds. Assumes
 -- nothing.
 -- All that they rest on stands in these files of specs/ (tests/believed):
---   base Conditions, Lists, Options, Totals; limits Limits; flags Flags; text Numerals, Writing;
---   answers Answers; masks Masks; automaton Automaton, Rules, Successor; rulecheck Checking,
---   Claims, Worked; ruleformat Format, Reader, Refusals; numbering Claims, Numbering, Order,
---   Texts; subsets Sets, mirror/Singles; delegates Alike, Claims, mirror/Classes; build
+--   base Answers, Conditions, Lists, Options, Totals; limits Limits; flags Flags; text Numerals,
+--   Writing; answers Answers; masks Masks; automaton Automaton, Rules, Successor; rulecheck
+--   Checking, Claims, Worked; ruleformat Format, Reader, Refusals; numbering Claims, Numbering,
+--   Order, Texts; subsets Sets, mirror/Singles; delegates Alike, Claims, mirror/Classes; build
 --   mirror/Building; marks Marks; chunks Chunks; joins Joining; calls Calls, Replies; executions
 --   Executions, Last; histories History, Method; fields Bytes, Claims, Numbers; lines Splitting;
 --   longlines Holding; linetexts Beginnings, Claims, Feeding, Functions, Lists, Parts; trays

@@ -4,10 +4,13 @@
 --   AsksCompare, MayCompare    `compare`: before it is called on two rules, and what it may return for
 --                              them
 --   AsksCompareC, MayCompareC  `bellbadger_compare`, which C links: the same
+use Rattle.base.specs.declared.Refusal.{Refusal}
+use Rattle.compare.specs.declared.Apart.{Apart}
+use Rattle.std.specs.Prelude as code
+use Rattle.std.specs.Prelude.{Result}
 use denote.Triple.Clauses.{AtExit}
 use borrow.Fn.Kinds.{ended_of}
 use Rattle.automaton.specs.declared.Rule.{Rule}
-use Rattle.compare.specs.declared.CompareResult.{CompareResult}
 use Rattle.compare.proofs.compare.Reads as compare_reads
 use Rattle.compare.proofs.compare.Kinds as compare_kinds
 use Rattle.c_compare.specs.declared.CompareNumbers.{CompareNumbers}
@@ -17,7 +20,7 @@ use Rattle.c_compare.proofs.bellbadger_compare.Kinds as c_kinds
 abbrev pub AsksCompare : Rule → Rule → Type 0
 AsksCompare one two = compare_reads.Asked tt (one, (two, tt))
 
-abbrev pub MayCompare : Rule → Rule → CompareResult → Type 0
+abbrev pub MayCompare : Rule → Rule → Result (code.Option Apart) Refusal → Type 0
 MayCompare one two r =
     (e : AtExit (ended_of 0 compare_kinds.ps compare_kinds.r) tt) × compare_reads.Learnt tt (one, (two, tt)) r e
 

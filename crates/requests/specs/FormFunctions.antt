@@ -5,12 +5,13 @@
 --   AsksTable, MayTable    `table_of`, the way back, on a form
 --   AsksFormC, MayFormC    `bellbadger_form`, which C links
 --   AsksTableC, MayTableC  `bellbadger_form_back`, which C links
+use Rattle.base.specs.declared.Refusal.{Refusal}
+use Rattle.forms.specs.declared.Table.{Table}
+use Rattle.std.specs.Prelude.{Result}
 use denote.Triple.Clauses.{AtExit}
 use borrow.Fn.Kinds.{ended_of}
 use Rattle.calls.specs.declared.Judge.{Judge}
 use Rattle.forms.specs.declared.Form.{Form}
-use Rattle.forms.specs.declared.FormResult.{FormResult}
-use Rattle.forms.specs.declared.BackResult.{BackResult}
 use Rattle.formmaker.proofs.make_form.Reads as form_reads
 use Rattle.formmaker.proofs.make_form.Kinds as form_kinds
 use Rattle.formback.proofs.table_of.Reads as table_reads
@@ -25,13 +26,13 @@ use Rattle.c_form.proofs.bellbadger_form_back.Kinds as c_table_kinds
 abbrev pub AsksForm : Judge → Type 0
 AsksForm j = form_reads.Asked tt (j, tt)
 
-abbrev pub MayForm : Judge → FormResult → Type 0
+abbrev pub MayForm : Judge → Result Form Refusal → Type 0
 MayForm j r = (s : AtExit (ended_of 0 form_kinds.ps form_kinds.r) tt) × form_reads.Learnt tt (j, tt) r s
 
 abbrev pub AsksTable : Form → Type 0
 AsksTable f = table_reads.Asked tt (f, tt)
 
-abbrev pub MayTable : Form → BackResult → Type 0
+abbrev pub MayTable : Form → Result Table Refusal → Type 0
 MayTable f r = (s : AtExit (ended_of 0 table_kinds.ps table_kinds.r) tt) × table_reads.Learnt tt (f, tt) r s
 
 abbrev pub AsksFormC : Judge → Type 0

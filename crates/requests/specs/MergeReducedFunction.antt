@@ -5,12 +5,12 @@
 --                                        rules, and what it may return for them
 --   AsksMergeReducedC, MayMergeReducedC  `bellbadger_merge_reduced`, which C links: the same, the
 --                                        way being a number
-use Rattle.std.specs.Prelude.{ℕ}
+use Rattle.base.specs.declared.Refusal.{Refusal}
+use Rattle.std.specs.Prelude.{Result, ℕ}
 use denote.Triple.Clauses.{AtExit}
 use borrow.Fn.Kinds.{ended_of}
 use Rattle.automaton.specs.declared.Rule.{Rule}
 use Rattle.merging.specs.declared.Way.{Way}
-use Rattle.merging.specs.declared.MergeResult.{MergeResult}
 use Rattle.mergereduced.proofs.merge_reduced.Reads as merge_reads
 use Rattle.mergereduced.proofs.merge_reduced.Kinds as merge_kinds
 use Rattle.c_merge.specs.declared.MergeNumbers.{MergeNumbers}
@@ -20,7 +20,7 @@ use Rattle.c_mergereduced.proofs.bellbadger_merge_reduced.Kinds as c_kinds
 abbrev pub AsksMergeReduced : Way → Rule → Rule → Type 0
 AsksMergeReduced way one two = merge_reads.Asked tt (way, (one, (two, tt)))
 
-abbrev pub MayMergeReduced : Way → Rule → Rule → MergeResult → Type 0
+abbrev pub MayMergeReduced : Way → Rule → Rule → Result Rule Refusal → Type 0
 MayMergeReduced way one two r =
     (s : AtExit (ended_of 0 merge_kinds.ps merge_kinds.r) tt) × merge_reads.Learnt tt (way, (one, (two, tt))) r s
 

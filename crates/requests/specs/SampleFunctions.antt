@@ -4,12 +4,14 @@
 --   AsksSample, MaySample    `find_sample`: before it is called on a rule and a wish, and what it may
 --                            return for them
 --   AsksSampleC, MaySampleC  `bellbadger_sample`, which C links: the same, the wish being a number
-use Rattle.std.specs.Prelude.{ℕ}
+use Rattle.base.specs.declared.Refusal.{Refusal}
+use Rattle.searches.specs.declared.Spelled.{Spelled}
+use Rattle.std.specs.Prelude as code
+use Rattle.std.specs.Prelude.{Result, ℕ}
 use denote.Triple.Clauses.{AtExit}
 use borrow.Fn.Kinds.{ended_of}
 use Rattle.automaton.specs.declared.Rule.{Rule}
 use Rattle.samples.specs.declared.Wish.{Wish}
-use Rattle.samples.specs.declared.SampleResult.{SampleResult}
 use Rattle.sampling.proofs.find_sample.Reads as sample_reads
 use Rattle.sampling.proofs.find_sample.Kinds as sample_kinds
 use Rattle.c_samples.specs.declared.SampleNumbers.{SampleNumbers}
@@ -19,7 +21,7 @@ use Rattle.c_samples.proofs.bellbadger_sample.Kinds as c_kinds
 abbrev pub AsksSample : Rule → Wish → Type 0
 AsksSample r wish = sample_reads.Asked tt (r, (wish, tt))
 
-abbrev pub MaySample : Rule → Wish → SampleResult → Type 0
+abbrev pub MaySample : Rule → Wish → Result (code.Option Spelled) Refusal → Type 0
 MaySample r wish s =
     (e : AtExit (ended_of 0 sample_kinds.ps sample_kinds.r) tt) × sample_reads.Learnt tt (r, (wish, tt)) s e
 

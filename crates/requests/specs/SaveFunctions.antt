@@ -4,14 +4,14 @@
 --   AsksSave, MaySave         `save`: before it is called on a judge, and what it may return for it
 --   AsksRestore, MayRestore   `restore`: the same, for bytes, which are lent as a reference
 --   AsksSaveC, MaySaveC, AsksRestoreC, MayRestoreC   the same of those that C links
-use Rattle.std.specs.Prelude.{◌≡◌, List, ℕ}
+use Rattle.base.specs.declared.Refusal.{Refusal}
+use Rattle.std.specs.Prelude.{Result, ◌≡◌, List, ℕ}
 use contract.Lifetimes.{Lfts}
 use Rattle.std.specs.Borrow.{Bor}
 use denote.Triple.Clauses.{AtExit}
 use borrow.Fn.Kinds.{ended_of}
 use Rattle.calls.specs.declared.Judge.{Judge}
 use Rattle.saved_judge.specs.declared.Saved.{Saved}
-use Rattle.saved_judge.specs.declared.RestoreResult.{RestoreResult}
 use Rattle.saved_judge.proofs.save.Reads as save_reads
 use Rattle.saved_judge.proofs.save.Kinds as save_kinds
 use Rattle.saved_judge.proofs.restore.Reads as restore_reads
@@ -31,7 +31,7 @@ MaySave j r = (s : AtExit (ended_of 0 save_kinds.ps save_kinds.r) tt) × save_re
 abbrev pub AsksRestore : Lfts 1 → Bor (List ℕ) → Type 0
 AsksRestore κs b = restore_reads.Asked κs (b, tt)
 
-abbrev pub MayRestore : List ℕ → RestoreResult → Type 0
+abbrev pub MayRestore : List ℕ → Result Judge Refusal → Type 0
 MayRestore w r =
     (κs : Lfts 1) × (b : Bor (List ℕ)) × (s : AtExit (ended_of 1 restore_kinds.ps restore_kinds.r) κs) × (b.now ≡ w)
     × restore_reads.Learnt κs (b, tt) r s

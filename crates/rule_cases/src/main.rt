@@ -3,8 +3,6 @@
 #![tactic(auto)]
 
 use automaton::Rule;
-use base::Answer;
-use fields::Bytes;
 use std::io;
 use stdio::Input;
 
@@ -35,13 +33,15 @@ fn print_head<R: Print>(rt: &R, rule: &Rule) -> io::Result<()> {
 
 // What the reader answers to a file.
 fn print_answer<R: Print>(rt: &R, file: &[u8]) -> io::Result<()> {
-    let reading = rulefile::read(file);
-    match reading.answer {
-        Answer::Accepted => {
-            print_head(rt, &reading.rule)?;
-            print_cells(rt, &reading.rule.targets)
+    match rulefile::read(file) {
+        Ok(rule) => {
+            print_head(rt, &rule)?;
+            print_cells(rt, &rule.targets)
         }
-        Answer::Refused(number) => print!(rt; "refused {number}"),
+        Err(refusal) => {
+            let number = refusal.number();
+            print!(rt; "refused {number}")
+        }
     }
 }
 
@@ -67,14 +67,11 @@ fn run_case<R: Print>(rt: &R, line: &[u8]) -> io::Result<()> {
     let hex = space + 1;
     rt.write_all(&line[..space])?;
     let mut file = [0u8; limits::FILE_ROOM];
-    let bytes = fields::read_bytes(&line[hex..], &mut file);
-    match bytes {
-        Bytes::Malformed => println!(rt; " malformed"),
-        Bytes::Put(n) => {
-            print!(rt; " ")?;
-            print_case(rt, &file[..n])
-        }
-    }
+    let Some(n) = fields::read_bytes(&line[hex..], &mut file) else {
+        return println!(rt; " malformed");
+    };
+    print!(rt; " ")?;
+    print_case(rt, &file[..n])
 }
 
 fn run_cases<R: Print>(rt: &R, text: &[u8]) -> io::Result<()> {

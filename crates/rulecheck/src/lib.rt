@@ -2,12 +2,12 @@
 #![tactic(auto)]
 
 ghost use Rattle.std.specs.Prelude.{◌≡◌};
-ghost use Rattle.base.specs.Answers.{answer_number};
+ghost use Rattle.base.specs.Answers.{result_number};
 ghost use Rattle.base.specs.Conditions.{outside as outsideOf};
 ghost use Rattle.rulecheck.specs.Checking.{beyond as beyondOf, bad_masks, bad_target, bad_targets, rule_number};
 
 use automaton::Rule;
-use base::Answer;
+use base::Refusal;
 
 // x is not in 1 .. most.
 pub fn outside(x: usize, most: usize) -> bool
@@ -57,35 +57,33 @@ fn bad_target(n: usize, k: usize, q: usize, s: usize, mask: u32) -> bool
 fn bad_targets(n: usize, k: usize, targets: &[u32; limits::TARGETS]) -> bool
     ensures { result ≡ bad_targets n k targets.now }
 {
-    let mut cell: usize = 0;
-    while cell < limits::TARGETS {
+    for (cell, mask) in targets.iter().enumerate() {
         let q = cell / limits::SYMBOLS;
         let s = cell % limits::SYMBOLS;
-        if bad_target(n, k, q, s, targets[cell]) {
+        if bad_target(n, k, q, s, *mask) {
             return true;
         }
-        cell += 1;
     }
     false
 }
 
 // The first of the conditions 3, 4, 6 and 8 that holds of the rule.
-pub fn check_rule(rule: Rule) -> Answer
-    ensures { answer_number result ≡ rule_number rule }
+pub fn check_rule(rule: Rule) -> Result<(), Refusal>
+    ensures { result_number result ≡ rule_number rule }
 {
     let n = rule.n as usize;
     if outside(n, limits::STATES) {
-        return Answer::Refused(3);
+        return Err(Refusal::StateCount);
     }
     let k = rule.k as usize;
     if outside(k, limits::SYMBOLS) {
-        return Answer::Refused(4);
+        return Err(Refusal::SymbolCount);
     }
     if bad_masks(n, rule.initials, rule.finals) {
-        return Answer::Refused(6);
+        return Err(Refusal::StrayState);
     }
     if bad_targets(n, k, &rule.targets) {
-        return Answer::Refused(8);
+        return Err(Refusal::BadArcs);
     }
-    Answer::Accepted
+    Ok(())
 }

@@ -3,7 +3,6 @@
 // Where it cannot read or write it says so on standard error.
 #![tactic(auto)]
 
-use dottext::Drawing;
 use std::io;
 use stdio::{Input, Streams};
 
@@ -14,12 +13,11 @@ fn write_refused<R: Eprint>(rt: &R, number: u8) {
 
 fn draw<R: Streams>(rt: &R, file: &[u8]) {
     let mut text = [0u8; limits::GRAPH_TEXT];
-    let drawing = dottext::print_whole(file, &mut text);
-    match drawing {
-        Drawing::Bytes(length) => {
+    match dottext::print_whole(file, &mut text) {
+        Ok(length) => {
             stdio::write_all(rt, &mut io::writer(rt), b"ruledot", &text[..length]);
         }
-        Drawing::Refused(number) => write_refused(rt, number),
+        Err(refusal) => write_refused(rt, refusal.number()),
     }
 }
 

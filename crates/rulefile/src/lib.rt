@@ -4,16 +4,15 @@
 ghost use Rattle.std.specs.Prelude.{◌≡◌, false, cond, ℕ, ◌+◌, ◌*◌, ◌/◌, ◌%◌, ◌≤◌, ◌<◌, eqb, length, get_or};
 ghost use Rattle.std.proofs.Math.Option.{none};
 ghost use Rattle.std.specs.Int.Bits.{bit_or};
-ghost use Rattle.base.specs.Answers.{answer_number};
+ghost use Rattle.base.specs.Answers.{result_number};
 ghost use Rattle.limits.specs.Limits.{most_states, most_symbols, target_cells};
 ghost use Rattle.ruleformat.specs.Format.{byte_at, half_at, word_at, state_count};
 ghost use Rattle.ruleformat.specs.Refusals.{bad_pairs, bad_section, bad_arcs, refusal};
 ghost use Rattle.ruleformat.specs.Reader.{targets_by, rule_of, no_rule, read_outcome, read_of};
 
 use automaton::Rule;
-use base::Answer;
+use base::Refusal;
 use masks::StateNumber;
-use ruleformat::ReadResult;
 
 // The byte at an index.
 fn byte(file: &[u8], at: usize) -> usize
@@ -48,8 +47,7 @@ fn pairs_break(file: &[u8]) -> bool
 {
     let n = byte(file, 0);
     let mut due = 10 + 4 * n;
-    let mut q: usize = 0;
-    while q < n {
+    for q in 0..n {
         let offset = half(file, 10 + 4 * q);
         let len = half(file, 12 + 4 * q);
         if offset != due {
@@ -59,7 +57,6 @@ fn pairs_break(file: &[u8]) -> bool
             return true;
         }
         due = offset + len;
-        q += 1;
     }
     due != file.len()
 }
@@ -71,8 +68,7 @@ fn section_breaks(section: &[u8], n: usize, k: usize) -> bool
 {
     let count = section.len() / 2;
     let mut past: usize = 0;
-    let mut i: usize = 0;
-    while i < count {
+    for i in 0..count {
         let symbol = byte(section, 2 * i);
         let target = byte(section, 2 * i + 1);
         if k <= symbol {
@@ -86,7 +82,6 @@ fn section_breaks(section: &[u8], n: usize, k: usize) -> bool
             return true;
         }
         past = arc + 1;
-        i += 1;
     }
     false
 }
@@ -98,53 +93,51 @@ fn arcs_break(file: &[u8]) -> bool
 {
     let n = byte(file, 0);
     let k = byte(file, 1);
-    let mut q: usize = 0;
-    while q < n {
+    for q in 0..n {
         let from = half(file, 10 + 4 * q);
         let len = half(file, 12 + 4 * q);
         let to = from + len;
         if section_breaks(&file[from..to], n, k) {
             return true;
         }
-        q += 1;
     }
     false
 }
 
 // The first of the conditions 1 to 8 that holds.
-fn check(file: &[u8]) -> Answer
-    ensures { answer_number result ≡ refusal file.now }
+fn check(file: &[u8]) -> Result<(), Refusal>
+    ensures { result_number result ≡ refusal file.now }
 {
     let len = file.len();
     if len < 10 {
-        return Answer::Refused(1);
+        return Err(Refusal::TooShort);
     }
     if limits::FILE < len {
-        return Answer::Refused(2);
+        return Err(Refusal::TooLong);
     }
     let n = byte(file, 0);
     if rulecheck::outside(n, limits::STATES) {
-        return Answer::Refused(3);
+        return Err(Refusal::StateCount);
     }
     let k = byte(file, 1);
     if rulecheck::outside(k, limits::SYMBOLS) {
-        return Answer::Refused(4);
+        return Err(Refusal::SymbolCount);
     }
     if len < 10 + 4 * n {
-        return Answer::Refused(5);
+        return Err(Refusal::CutPairs);
     }
     let initials = word(file, 2);
     let finals = word(file, 6);
     if rulecheck::bad_masks(n, initials, finals) {
-        return Answer::Refused(6);
+        return Err(Refusal::StrayState);
     }
     if pairs_break(file) {
-        return Answer::Refused(7);
+        return Err(Refusal::BadPairs);
     }
     if arcs_break(file) {
-        return Answer::Refused(8);
+        return Err(Refusal::BadArcs);
     }
-    Answer::Accepted
+    Ok(())
 }
 
 // Adds the arcs of the section of state q to its row of the table.
@@ -154,13 +147,11 @@ fn store_arcs(targets: &mut [u32; limits::TARGETS], q: StateNumber, section: &[u
 {
     let row = limits::SYMBOLS * (q.0 as usize);
     let count = section.len() / 2;
-    let mut i: usize = 0;
-    while i < count {
+    for i in 0..count {
         let at = row + byte(section, 2 * i);
         let target = section[2 * i + 1];
         let old = targets[at];
         targets[at] = masks::union(old, masks::singleton(StateNumber(target)));
-        i += 1;
     }
 }
 
@@ -174,14 +165,12 @@ fn build(file: &[u8]) -> Rule
     let initials = word(file, 2);
     let finals = word(file, 6);
     let mut targets = [0u32; limits::TARGETS];
-    let mut q: u8 = 0;
-    while q < n {
+    for q in 0..n {
         let at = 4 * (q as usize);
         let from = half(file, 10 + at);
         let len = half(file, 12 + at);
         let to = from + len;
         store_arcs(&mut targets, StateNumber(q), &file[from..to]);
-        q += 1;
     }
     Rule {
         n,
@@ -206,19 +195,10 @@ pub fn no_rule() -> Rule
     }
 }
 
-// The rule in the file; or zeros, and the first of the refusals 1 to 8 whose condition holds.
-pub fn read(file: &[u8]) -> ReadResult
+// The rule in the file, or the first of the refusals 1 to 8 whose condition holds.
+pub fn read(file: &[u8]) -> Result<Rule, Refusal>
     ensures { read_outcome result ≡ read_of file.now }
 {
-    let answer = check(file);
-    match answer {
-        Answer::Accepted => {
-            let rule = build(file);
-            ReadResult { answer, rule }
-        }
-        Answer::Refused(_) => {
-            let rule = no_rule();
-            ReadResult { answer, rule }
-        }
-    }
+    check(file)?;
+    Ok(build(file))
 }

@@ -5,18 +5,17 @@
 --                   digits and, for each symbol, the number of the successor or - for the empty
 --                   set; and each state's delegate, or - where it has none (document 02, R-7)
 --   refused_text x  `refused` and the number (crates/answers)
---   text_of b        one or the other, by the answer of building
-use Rattle.std.specs.Prelude.{cond, List, [], ◌∷◌, ◌++◌, ℕ, ◌+◌, ◌*◌, min, ltb, get_or}
+--   text_of b        one or the other, by what building answers
+use Rattle.std.specs.Prelude.{Result, Ok, Err, cond, List, [], ◌∷◌, ◌++◌, ℕ, ◌+◌, ◌*◌, min, ltb, get_or}
 use Rattle.std.proofs.Math.Option.{Option, none, some}
 use Rattle.limits.specs.Limits.{most_states, most_symbols, most_sets, empty_set}
 use Rattle.base.specs.Lists.{joined}
 use Rattle.text.specs.Numerals.{decimal, hex}
 pub use Rattle.answers.specs.Answers.{refused_text}
 use Rattle.delegates.specs.Alike.{delegate_in}
-use Rattle.build.specs.declared.BuildAnswer.{BuildAnswer}
-use Rattle.build.specs.declared.BuildAnswer.TheVariants.{Accepted, Refused}
+use Rattle.base.specs.declared.Refusal.{Refusal}
+use Rattle.base.specs.Answers.{refusal_number}
 use Rattle.build.specs.declared.Built.{Built}
-use Rattle.build.specs.declared.BuildResult.{BuildResult}
 
 abbrev pub space : ℕ
 space = 32
@@ -68,9 +67,6 @@ rule_text b =
     head_line (min b.setcount most_sets) b.startcount
     ++ (joined (set_line b.sets b.next (min b.k most_symbols)) (min b.setcount most_sets) ++ delegates_line b.delegates (min b.n most_states))
 
-abbrev pub answer_text : BuildAnswer → Built → List ℕ
-answer_text (Accepted sets starts) b = rule_text b
-answer_text (Refused number) b = refused_text number
-
-abbrev pub text_of : BuildResult → List ℕ
-text_of b = answer_text b.answer b.built
+abbrev pub text_of : Result Built Refusal → List ℕ
+text_of (Ok built) = rule_text built
+text_of (Err refusal) = refused_text (refusal_number refusal)

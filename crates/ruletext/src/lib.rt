@@ -10,8 +10,8 @@ ghost use Rattle.delegates.specs.mirror.Answer.{delegate_means};
 ghost use Rattle.ruletext.specs.RuleText.{field, cell_text, row_text, set_line, head_line, delegate_text, delegates_line, rule_text, text_of};
 ghost use Rattle.ruletext.specs.Printing.{text_for, most_bytes};
 
-use base::Answer;
-use build::{BuildAnswer, BuildResult, Built};
+use base::Refusal;
+use build::Built;
 use delegates::DelegateAnswer;
 use masks::StateNumber;
 use subsets::SetNumber;
@@ -51,11 +51,9 @@ pub fn put_row(
 {
     let row = i.0 as usize;
     let mut at = start;
-    let mut s: usize = 0;
-    while s < k {
+    for s in 0..k {
         let to = next[row * limits::SYMBOLS + s];
         at = put_cell(out, at, SetNumber(to));
-        s += 1;
     }
     at
 }
@@ -99,11 +97,9 @@ fn put_sets(
     ensures { Wrote out.old start (joined (set_line sets.now next.now k) count) out.new result }
 {
     let mut at = start;
-    let mut i: usize = 0;
-    while i < count {
+    for i in 0..count {
         let number = i as u16;
         at = put_set(out, at, sets, next, k, SetNumber(number));
-        i += 1;
     }
     at
 }
@@ -125,12 +121,10 @@ fn put_fields(out: &mut [u8], start: usize, delegates: &[u8; limits::STATES], n:
     ensures { (Wrote out.old start (joined (λ q. delegate_text (delegate_in delegates.now q)) n) out.new result) × (result ≤ start + 4 * n) }
 {
     let mut at = start;
-    let mut q: usize = 0;
-    while q < n {
+    for q in 0..n {
         let state = StateNumber(q as u8);
         let delegate = delegates::delegate_at(delegates, state);
         at = put_delegate(out, at, delegate);
-        q += 1;
     }
     at
 }
@@ -160,9 +154,9 @@ fn put_rule(out: &mut [u8], built: Built) -> usize
     requires { most_bytes ≤ length out.old }
     ensures { Wrote out.old 0 (rule_text built) out.new result }
 {
-    let count = base::at_most(built.setcount as usize, limits::SETS);
-    let k = base::at_most(built.k as usize, limits::SYMBOLS);
-    let n = base::at_most(built.n as usize, limits::STATES);
+    let count = (built.setcount as usize).min(limits::SETS);
+    let k = (built.k as usize).min(limits::SYMBOLS);
+    let n = (built.n as usize).min(limits::STATES);
     let sets = built.sets;
     let next = built.next;
     let delegates = built.delegates;
@@ -172,15 +166,13 @@ fn put_rule(out: &mut [u8], built: Built) -> usize
 }
 
 // What building a rule answers, as text.
-fn put_building(out: &mut [u8], building: BuildResult) -> usize
+fn put_building(out: &mut [u8], building: Result<Built, Refusal>) -> usize
     requires { most_bytes ≤ length out.old }
     ensures { Wrote out.old 0 (text_of building) out.new result }
 {
-    let answer = building.answer;
-    let built = building.built;
-    match answer {
-        BuildAnswer::Accepted(_, _) => put_rule(out, built),
-        BuildAnswer::Refused(number) => answers::put_refused(out, 0, number),
+    match building {
+        Ok(built) => put_rule(out, built),
+        Err(refusal) => answers::put_refused(out, 0, refusal.number()),
     }
 }
 
@@ -190,11 +182,8 @@ pub fn print_whole(file: &[u8], out: &mut [u8]) -> usize
     requires { most_bytes ≤ length out.old }
     ensures { Wrote out.old 0 (text_for file.now) out.new result }
 {
-    let reading = rulefile::read(file);
-    let answer = reading.answer;
-    let rule = reading.rule;
-    match answer {
-        Answer::Accepted => put_building(out, build::build_rule(rule)),
-        Answer::Refused(number) => answers::put_refused(out, 0, number),
+    match rulefile::read(file) {
+        Ok(rule) => put_building(out, build::build_rule(rule)),
+        Err(refusal) => answers::put_refused(out, 0, refusal.number()),
     }
 }

@@ -64,10 +64,8 @@ fn put_arcs(out: &mut [u8], start: usize, n: u8, mask: u32, symbol: u8) -> usize
         (arcs_by n mask symbol) out.new result }
 {
     let mut at = start;
-    let mut t: u8 = 0;
-    while t < n {
+    for t in 0..n {
         at = put_arc(out, at, mask, symbol, StateNumber(t));
-        t += 1;
     }
     at
 }
@@ -88,11 +86,9 @@ fn put_section(
         (section_of n k (target_mask targets.now q.0)) out.new result }
 {
     let mut at = start;
-    let mut s: u8 = 0;
-    while s < k {
+    for s in 0..k {
         let cell = (q.0 as usize) * limits::SYMBOLS + (s as usize);
         at = put_arcs(out, at, n, targets[cell], s);
-        s += 1;
     }
     at
 }
@@ -115,12 +111,10 @@ fn put_states(out: &mut [u8], targets: &[u32; limits::TARGETS], n: u8, k: u8) ->
         (states_part n k targets.now) out.new result }
 {
     let mut at = 10 + 4 * (n as usize);
-    let mut q: u8 = 0;
-    while q < n {
+    for q in 0..n {
         let end = put_section(out, at, targets, n, k, StateNumber(q));
         put_pair(out, 10 + 4 * (q as usize), at, end - at);
         at = end;
-        q += 1;
     }
     at
 }

@@ -1,20 +1,21 @@
 -- How an answer is carried by value.
 --
 --   longest_sample       the most symbols of a sample
---   Reply, answer_means  which of the three answers it is, and what each case of the code's says
---   Outcome              the answer, the length of the text and the text; and what the code's
---   sample_outcome       result stands for
+--   Reply                which of the three answers it is
+--   Outcome              the answer, the length of the text and the text; and what each case of the
+--   sample_outcome       code's result stands for
 --   word_of a, reply_of a  the text of the answer a, empty where there is none; and which answer it is
 --   Carries a o          the value o carries the answer a, in the words of the request: the text with
 --                        its length and zeros after it; where there is none, the length 0 and zeros
 --   outcome_of a         the value that does
 --   sample_in o          the answer that a value tells
-use Rattle.std.specs.Prelude.{◌≡◌, List, [], ℕ, ◌≤◌, ◌<◌, get_or, take, replicate}
+use Rattle.std.specs.Prelude as code
+use Rattle.std.specs.Prelude.{Result, Ok, Err, Some, None, ◌≡◌, List, [], ℕ, ◌≤◌, ◌<◌, get_or, take, replicate}
 use Rattle.std.proofs.Math.ListN as ListN
+use Rattle.base.specs.declared.Refusal.{Refusal}
+use Rattle.base.specs.Answers.{refusal_number}
+use Rattle.searches.specs.declared.Spelled.{Spelled}
 use Rattle.searches.specs.Texts.{longest_text, text_cells}
-use Rattle.samples.specs.declared.SampleAnswer.{SampleAnswer}
-use Rattle.samples.specs.declared.SampleAnswer.TheVariants.{Text, Nothing, Refused}
-use Rattle.samples.specs.declared.SampleResult.{SampleResult}
 use Rattle.samples.specs.Samples as sample
 use Rattle.samples.specs.Samples.{Sample}
 
@@ -26,18 +27,10 @@ pub data Reply : Type 0 where
   none_there : Reply
   refused : ℕ → Reply
 
-abbrev pub answer_means : SampleAnswer → Reply
-answer_means Text = found
-answer_means Nothing = none_there
-answer_means (Refused number) = refused number
-
 pub record Outcome : Type 0 where
   pub reply : Reply
   pub length : ℕ
   pub text : List ℕ
-
-abbrev pub sample_outcome : SampleResult → Outcome
-sample_outcome r = record { reply = answer_means r.answer; length = r.length; text = r.text }
 
 abbrev pub word_of : Sample → List ℕ
 word_of (sample.text w) = w
@@ -58,6 +51,11 @@ pub record Carries (a : Sample) (o : Outcome) : Type 0 where
 
 abbrev pub no_text : Reply → Outcome
 no_text reply = record { reply = reply; length = 0; text = replicate longest_sample 0 }
+
+abbrev pub sample_outcome : Result (code.Option Spelled) Refusal → Outcome
+sample_outcome (Ok (Some spelled)) = record { reply = found; length = spelled.length; text = spelled.text }
+sample_outcome (Ok None) = no_text none_there
+sample_outcome (Err refusal) = no_text (refused (refusal_number refusal))
 
 abbrev pub outcome_of : Sample → Outcome
 outcome_of (sample.text w) = record { reply = found; length = ListN.length w; text = text_cells w }

@@ -10,8 +10,9 @@ ghost use Rattle.samples.specs.Search.{sample_of};
 ghost use Rattle.sampletext.specs.SampleText.{rejects_word, line_for, samples_text, text_for, line_room, most_bytes};
 
 use automaton::Rule;
-use base::Answer;
-use samples::{SampleAnswer, SampleResult, Wish};
+use base::Refusal;
+use samples::Wish;
+use searches::Spelled;
 
 // Room for the text of any file: two lines, each a word of 8 bytes, two hex digits for each symbol
 // of the longest sample, and a line feed.
@@ -48,19 +49,23 @@ fn put_none(out: &mut [u8], at: usize, word: &[u8]) -> usize
 }
 
 // The line of an answer.
-fn put_sample(out: &mut [u8], at: usize, word: &[u8], res: SampleResult) -> usize
+fn put_sample(
+    out: &mut [u8],
+    at: usize,
+    word: &[u8],
+    sample: Result<Option<Spelled>, Refusal>,
+) -> usize
     requires { (length word.now ≡ 8) × (at + line_room ≤ length out.old) }
-    ensures { (Wrote out.old at (line_for word.now (sample_in (sample_outcome res))) out.new result) × (result ≤ at + line_room) }
+    ensures { (Wrote out.old at (line_for word.now (sample_in (sample_outcome sample))) out.new result) × (result ≤ at + line_room) }
 {
-    let answer = res.answer;
-    match answer {
-        SampleAnswer::Text => {
-            let bytes = res.text;
-            let n = base::at_most(res.length, samples::LONGEST);
+    match sample {
+        Ok(Some(spelled)) => {
+            let bytes = spelled.text;
+            let n = spelled.length.min(samples::LONGEST);
             put_text(out, at, word, &bytes[..n])
         }
-        SampleAnswer::Nothing => put_none(out, at, word),
-        SampleAnswer::Refused(number) => answers::put_refused(out, at, number),
+        Ok(None) => put_none(out, at, word),
+        Err(refusal) => answers::put_refused(out, at, refusal.number()),
     }
 }
 
@@ -69,8 +74,8 @@ fn put_rejected(out: &mut [u8], at: usize, rule: Rule) -> usize
     requires { at + line_room ≤ length out.old }
     ensures { (Wrote out.old at (line_for rejects_word (sample_of rule Rejected)) out.new result) × (result ≤ at + line_room) }
 {
-    let result = sampling::find_sample(rule, Wish::Rejected);
-    put_sample(out, at, b"rejects ", result)
+    let sample = sampling::find_sample(rule, Wish::Rejected);
+    put_sample(out, at, b"rejects ", sample)
 }
 
 // The lines of a rule.
@@ -78,13 +83,11 @@ fn put_samples(out: &mut [u8], rule: Rule) -> usize
     requires { most_bytes ≤ length out.old }
     ensures { Wrote out.old 0 (samples_text rule) out.new result }
 {
-    let result = sampling::find_sample(rule, Wish::Accepted);
-    let answer = result.answer;
-    let end = put_sample(out, 0, b"accepts ", result);
-    match answer {
-        SampleAnswer::Text => put_rejected(out, end, rule),
-        SampleAnswer::Nothing => put_rejected(out, end, rule),
-        SampleAnswer::Refused(_) => end,
+    let sample = sampling::find_sample(rule, Wish::Accepted);
+    let end = put_sample(out, 0, b"accepts ", sample);
+    match sample {
+        Ok(_) => put_rejected(out, end, rule),
+        Err(_) => end,
     }
 }
 
@@ -93,10 +96,8 @@ pub fn print_samples(file: &[u8], out: &mut [u8]) -> usize
     requires { most_bytes ≤ length out.old }
     ensures { Wrote out.old 0 (text_for file.now) out.new result }
 {
-    let reading = rulefile::read(file);
-    let read = reading.answer;
-    match read {
-        Answer::Accepted => put_samples(out, reading.rule),
-        Answer::Refused(number) => answers::put_refused(out, 0, number),
+    match rulefile::read(file) {
+        Ok(rule) => put_samples(out, rule),
+        Err(refusal) => answers::put_refused(out, 0, refusal.number()),
     }
 }

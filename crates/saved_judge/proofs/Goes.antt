@@ -6,9 +6,9 @@
 --   ends-here    nothing is left
 --   Rest         the fields that are left
 --   all_left     all of them
---   next_field, next_one   a field more, a number alone more
+--   next_field, next_cells, next_one   a field more, an array of cells more, a number alone more
 --   none_left    none of them
-use Rattle.std.proofs.Common.{◌≡◌, ℕ, ◌+◌, ◌≤◌, List, [], ◌∷◌, ◌++◌, length, refl, arith, length-append}
+use Rattle.std.proofs.Common.{◌≡◌, ℕ, ◌+◌, ◌≤◌, List, [], ◌∷◌, ◌++◌, length, map, map-id, refl, arith, length-append}
 use Rattle.text.specs.Writing.{Wrote}
 use Rattle.text.proofs.Pieces.{wrote_none, wrote_more, wrote_length}
 use Rattle.saved_judge.specs.Little.{little_of, numbers_of}
@@ -51,6 +51,10 @@ module _ {before : List ℕ} {start : ℕ} {whole out : List ℕ} {at : ℕ} whe
       → Rest before start whole out at (field w xs ∷ fs) → Wrote out at (numbers_of w xs) mid e → Rest before start whole mid e fs
   unfolding bytes_in
   next_field r w = record { left = goes_on before start whole r.left w }
+
+  pub next_cells : {w : ℕ} {xs : List ℕ} {fs : List Field} {mid : List ℕ} {e : ℕ}
+      → Rest before start whole out at (field w xs ∷ fs) → Wrote out at (numbers_of w (map (λ x. x) xs)) mid e → Rest before start whole mid e fs
+  next_cells {w} {xs} r v = next_field r (rw (map-id xs) at v)
 
   pub next_one : {w x : ℕ} {fs : List Field} {mid : List ℕ} {e : ℕ}
       → Rest before start whole out at (one w x ∷ fs) → Wrote out at (little_of w x) mid e → Rest before start whole mid e fs

@@ -3,11 +3,13 @@
 --
 --   Digits, digits_begin, digits_room, digits_more, digits_done   writing a number, byte by byte:
 --                    what is left of it
---   Cells, cells_begin, cells_room, cells_more, cells_done   writing numbers, one by one
+--   Cells, cells_begin, cells_room, cells_more, cells_done   writing the numbers of cells, one by one
 --   Read, read_begin, read_fits, read_more, read_done        reading a number, the highest byte first
---   Got, got_begin, got-room, got_more, got_done             reading numbers, one by one
-use Rattle.std.proofs.Common.{◌≡◌, ℕ, suc, ◌+◌, ◌-◌, ◌*◌, ◌/◌, ◌%◌, ◌^◌, ◌<◌, ◌≤◌, List, [], ◌∷◌, ◌++◌, length, get_or, drop, set, ◌∙◌, add-one, arith, lit<, length-append, length-set, drop_of_length-le, drop-cons}
+--   Got, got_begin, got_more, got_done             reading cells, one by one
+--   are_cells        the cells that were read
+use Rattle.std.proofs.Common.{◌≡◌, ℕ, suc, ◌+◌, ◌-◌, ◌*◌, ◌/◌, ◌%◌, ◌^◌, ◌<◌, ◌≤◌, List, [], ◌∷◌, ◌++◌, length, map, get_or, drop, set, sym, ap, ◌∙◌, add-one, arith, lit<, length-append, length-set, drop_of_length-le, drop-cons}
 use native.Mathlib.Nat.{pow-succ', pow-le-pow_right}
+use Rattle.std.proofs.lemmas.List.{length-map, map-id, map-set}
 use Rattle.base.proofs.Lists.{cell_stored}
 use Rattle.text.specs.Writing.{Wrote}
 use Rattle.saved_judge.specs.Little.{little_of, little_in, little_at, numbers_of, numbers_at}
@@ -16,62 +18,72 @@ use Rattle.saved_judge.proofs.Goes.{Goes, begins, goes_on, ends-here}
 
 -- ---- writing a number
 module _ (before : List ℕ) (start w x : ℕ) where
-  pub record Digits (out : List ℕ) (at left rest : ℕ) : Type 0 where
-    pub goes : Goes before start (little_of w x) out at (little_of left rest)
+  pub record Digits (out : List ℕ) (at i rest : ℕ) : Type 0 where
+    pub most : i ≤ w
+    pub goes : Goes before start (little_of w x) out at (little_of (w - i) rest)
 
-  pub digits_begin : start + w ≤ length before → Digits before start w x
-  digits_begin h = record { goes = begins before start (little_of w x) (omega (arith, little_length w x)) }
+  pub digits_begin : start + w ≤ length before → Digits before start 0 x
+  digits_begin h =
+      let e : w - 0 ≡ w = omega arith in
+      record { most = omega arith; goes = rw e (begins before start (little_of w x) (omega (arith, little_length w x))) }
 
-  module _ (out : List ℕ) (at left rest : ℕ) (d : Digits out at left rest) where
-    pub digits_room : at + left ≤ length out
-    digits_room = omega (arith, little_length left rest, d.goes.room)
+  module _ (out : List ℕ) (at i rest : ℕ) (d : Digits out at i rest) where
+    pub digits_room : i < w → at < length out
+    digits_room h = omega (arith, little_length (w - i) rest, d.goes.room)
 
-    pub digits_more : {mid : List ℕ} {e : ℕ} → (left ≡ 0 → ⊥) → Wrote out at (rest % 256 ∷ []) mid e → Digits mid e (left - 1) (rest / 256)
+    pub digits_more : {mid : List ℕ} {e : ℕ} → i < w → Wrote out at (rest % 256 ∷ []) mid e → Digits mid e (i + 1) (rest / 256)
     unfolding little_of
     digits_more h v =
-        let is : left ≡ suc (left - 1) = omega (arith, h) in
-        let g : Goes before start (little_of w x) out at (little_of (suc (left - 1)) rest) = rw is at d.goes in
-        record { goes = goes_on before start (little_of w x) {p = rest % 256 ∷ []} {q = little_of (left - 1) (rest / 256)} g v }
+        let is : w - i ≡ suc (w - (i + 1)) = omega arith in
+        let g : Goes before start (little_of w x) out at (little_of (suc (w - (i + 1))) rest) = rw is at d.goes in
+        record {
+          most = omega arith;
+          goes = goes_on before start (little_of w x) {p = rest % 256 ∷ []} {q = little_of (w - (i + 1)) (rest / 256)} g v;
+        }
 
-    pub digits_done : left ≡ 0 → Wrote before start (little_of w x) out at × (at ≡ start + w)
+    pub digits_done : w ≤ i → Wrote before start (little_of w x) out at × (at ≡ start + w)
     unfolding little_of
     digits_done h =
-        let g : Goes before start (little_of w x) out at (little_of 0 rest) = rw h at d.goes in
+        let none : w - i ≡ 0 = omega arith in
+        let g : Goes before start (little_of w x) out at (little_of 0 rest) = rw none at d.goes in
         let v = ends-here before start (little_of w x) g in
         (v, omega (arith, v.ends, little_length w x))
 
--- ---- writing numbers
-module _ (before : List ℕ) (start w : ℕ) (cells : List ℕ) where
+-- ---- writing cells, which stand for numbers
+module _ {T : Type 0} (value : T → ℕ) (before : List ℕ) (start w : ℕ) (cells : List T) where
   pub record Cells (out : List ℕ) (at i : ℕ) : Type 0 where
-    pub low : i ≤ length cells
-    pub goes : Goes before start (numbers_of w cells) out at (numbers_of w (drop i cells))
+    pub goes : Goes before start (numbers_of w (map value cells)) out at (numbers_of w (map value (drop i cells)))
+
+  long : length (numbers_of w (map value cells)) ≡ w * length cells
+  long = numbers_length w (map value cells) ∙ ap (λ (n : ℕ). w * n) (length-map cells value)
 
   pub cells_begin : start + w * length cells ≤ length before → Cells before start 0
-  cells_begin h = record { low = omega arith; goes = begins before start (numbers_of w cells) (omega (arith, numbers_length w cells)) }
+  cells_begin h = record { goes = begins before start (numbers_of w (map value cells)) (omega (arith, long)) }
 
-  module _ (out : List ℕ) (at i : ℕ) (c : Cells out at i) where
-    next : i < length cells → Goes before start (numbers_of w cells) out at (little_of w (get_or cells i 0) ++ numbers_of w (drop (suc i) cells))
+  module _ (out : List ℕ) (at i : ℕ) (c : Cells out at i) (x : T) (v n : ℕ) (inside : i < length cells) (is : x ≡ get_or cells i x) (width : v ≡ w) (number : n ≡ value x) where
+    next : Goes before start (numbers_of w (map value cells)) out at (little_of w (value x) ++ numbers_of w (map value (drop (suc i) cells)))
     unfolding numbers_of
-    next h = rw (drop-cons cells i 0 h) at c.goes
+    next = rw (drop-cons cells i x inside, ← is) at c.goes
 
-    pub cells_room : i < length cells → at + w ≤ length out
-    cells_room h =
+    pub cells_room : at + v ≤ length out
+    cells_room =
         omega (
           arith,
-          (next h).room,
-          length-append (little_of w (get_or cells i 0)) (numbers_of w (drop (suc i) cells)),
-          little_length w (get_or cells i 0),
+          next.room,
+          length-append (little_of w (value x)) (numbers_of w (map value (drop (suc i) cells))),
+          little_length w (value x),
+          width,
         )
 
-    pub cells_more : {mid : List ℕ} {e : ℕ} → i < length cells → Wrote out at (little_of w (get_or cells i 0)) mid e → Cells mid e (i + 1)
-    cells_more h v = record { low = omega arith; goes = rw add-one (goes_on before start (numbers_of w cells) (next h) v) }
+    pub cells_more : {mid : List ℕ} {e : ℕ} → Wrote out at (little_of v n) mid e → Cells mid e (i + 1)
+    cells_more p = record { goes = rw add-one (goes_on before start (numbers_of w (map value cells)) next (rw (width, number) at p)) }
 
-    pub cells_done : length cells ≤ i → Wrote before start (numbers_of w cells) out at × (at ≡ start + w * length cells)
-    unfolding numbers_of
-    cells_done h =
-        let g : Goes before start (numbers_of w cells) out at (numbers_of w []) = rw (drop_of_length-le cells h) at c.goes in
-        let v = ends-here before start (numbers_of w cells) g in
-        (v, omega (arith, v.ends, numbers_length w cells))
+  pub cells_done : (out : List ℕ) (at i : ℕ) → Cells out at i → length cells ≤ i → Wrote before start (numbers_of w (map value cells)) out at × (at ≡ start + w * length cells)
+  unfolding numbers_of
+  cells_done out at i c h =
+      let g : Goes before start (numbers_of w (map value cells)) out at (numbers_of w []) = rw (drop_of_length-le cells h) at c.goes in
+      let v = ends-here before start (numbers_of w (map value cells)) g in
+      (v, omega (arith, v.ends, long))
 
 -- ---- reading a number
 module _ (b : List ℕ) (at w : ℕ) where
@@ -89,13 +101,13 @@ module _ (b : List ℕ) (at w : ℕ) where
       record { most = omega arith; eight = h; room = l; is = rw e; below = rw e (omega arith) }
 
   module _ (number left : ℕ) (r : Read number left) where
-    pub read_fits : (left ≡ 0 → ⊥) → number < 2 ^ 56
+    pub read_fits : 0 < left → number < 2 ^ 56
     read_fits h =
         let m : w - left ≤ 7 = omega (arith, r.eight, h) in
         let p : 256 ^ (w - left) ≤ 256 ^ 7 = pow-le-pow_right (lit< tt) m in
         omega (arith, p, r.below)
 
-    pub read_more : (left ≡ 0 → ⊥) → get_or b (at + (left - 1)) 0 < 256 → Read (256 * number + get_or b (at + (left - 1)) 0) (left - 1)
+    pub read_more : 0 < left → get_or b (at + (left - 1)) 0 < 256 → Read (256 * number + get_or b (at + (left - 1)) 0) (left - 1)
     unfolding little_in
     read_more h l =
         let x = get_or b (at + (left - 1)) 0 in
@@ -111,31 +123,33 @@ module _ (b : List ℕ) (at w : ℕ) where
           below = rw e (omega (arith, p, r.below, l));
         }
 
-    pub read_done : left ≡ 0 → (number ≡ little_at w b at) × (number < 256 ^ w)
+    pub read_done : left ≤ 0 → (number ≡ little_at w b at) × (number < 256 ^ w)
     read_done h =
         let e : w - left ≡ w = omega (arith, h) in
         let f : at + left ≡ at = omega (arith, h) in
         (rw (e, f) at r.is, rw e at r.below)
 
--- ---- reading numbers
-module _ (b : List ℕ) (at w n : ℕ) where
-  pub record Got (cells : List ℕ) (i : ℕ) : Type 0 where
-    pub low : i ≤ n
+-- ---- reading cells, which stand for numbers
+module _ {T : Type 0} (value : T → ℕ) (b : List ℕ) (at w n : ℕ) where
+  pub record Got (cells : List T) (i : ℕ) : Type 0 where
     pub size : length cells ≡ n
     pub room : at + w * n ≤ length b
-    pub is : (c : ℕ) → c < i → get_or cells c 0 ≡ little_at w b (at + w * c)
+    pub is : (c : ℕ) → c < i → get_or (map value cells) c 0 ≡ little_at w b (at + w * c)
 
-  pub got_begin : (cells : List ℕ) → length cells ≡ n → at + w * n ≤ length b → Got cells 0
-  got_begin cells l h = record { low = omega arith; size = l; room = h; is = λ c m. absurd (omega (arith, m)) }
+  pub got_begin : (cells : List T) → length cells ≡ n → at + w * n ≤ length b → Got cells 0
+  got_begin cells l h = record { size = l; room = h; is = λ c m. absurd (omega (arith, m)) }
 
-  module _ (cells : List ℕ) (i : ℕ) (g : Got cells i) where
-    pub got_more : (x : ℕ) → i < n → x ≡ little_at w b (at + w * i) → Got (set cells i x) (i + 1)
-    got_more x h e = record {
-      low = omega arith;
+  module _ (cells : List T) (i : ℕ) (g : Got cells i) where
+    pub got_more : (x : T) (m : ℕ) → i < n → value x ≡ m → m ≡ little_at w b (at + w * i) → Got (set cells i x) (i + 1)
+    got_more x m h v e = record {
       size = length-set cells i x ∙ g.size;
       room = g.room;
-      is = cell_stored cells (λ c. little_at w b (at + w * c)) i x (omega (arith, g.size)) e g.is;
+      is = rw (map-set value cells i x) (cell_stored (map value cells) (λ c. little_at w b (at + w * c)) i (value x) (omega (arith, length-map cells value, g.size)) (v ∙ e) g.is);
     }
 
-    pub got_done : n ≤ i → cells ≡ numbers_at w n b at
-    got_done h = numbers_are w n b at cells g.size (λ c m. g.is c (omega (arith, m)))
+    pub got_done : n ≤ i → map value cells ≡ numbers_at w n b at
+    got_done h = numbers_are w n b at (map value cells) (length-map cells value ∙ g.size) (λ c m. g.is c (omega (arith, m)))
+
+-- cells that are their own numbers
+pub are_cells : (b : List ℕ) (at w m n : ℕ) (cells : List ℕ) → map (λ x. x) cells ≡ numbers_at w m b at → m ≡ n → cells ≡ numbers_at w n b at
+are_cells b at w m n cells e f = sym (map-id cells) ∙ e ∙ ap (λ (k : ℕ). numbers_at w k b at) f

@@ -8,36 +8,27 @@
 --   step_in_digest, step_in_byte   a step is one to one in the digest, and in the byte
 --   from_one          so are bytes behind a digest in it
 --   one_byte          where one byte is another, so is the digest
-use Rattle.std.proofs.Common.{◌≡◌, ℕ, zero, suc, ◌+◌, ◌*◌, ◌/◌, ◌%◌, ◌^◌, ◌<◌, ◌≤◌, List, [], ◌∷◌, length, get_or, take, drop, set, sym, refl, ap, ◌∙◌, ap₂, add_assoc, mod-lt, mod-eq_of_lt, mul_assoc, add-mul, mul-le-mul, mul-one, mul-add, add-one, arith, lit<, drop_of_length-le, length-take-le, drop-cons, get_or-take}
+use Rattle.std.proofs.Common.{◌≡◌, ℕ, zero, suc, ◌+◌, ◌*◌, ◌/◌, ◌%◌, ◌^◌, ◌<◌, ◌≤◌, List, [], ◌∷◌, length, get_or, drop, set, sym, refl, ap, ◌∙◌, ap₂, add_assoc, mod-lt, mod-eq_of_lt, mul_assoc, add-mul, mul-le-mul, mul-one, mul-add, add-one, arith, lit<, drop_of_length-le, drop-cons}
 use native.Mathlib.Nat.{mod-add-div, mod-add-mod, add-mul-mod_self_left, add-mul-mod_self_right}
 use Rattle.ruleformat.specs.Writing.{Bytes}
 use Rattle.saved_judge.specs.Digest.{mixed, digest_step, digest_from, digest_of}
 
-module _ (s : List ℕ) (count : ℕ) where
+module _ (s : List ℕ) where
   pub record Summed (h i : ℕ) : Type 0 where
-    pub most : i ≤ count
-    pub room : count ≤ length s
-    pub same : digest_of (take count s) ≡ digest_from h (drop i (take count s))
+    pub most : i ≤ length s
+    pub same : digest_of s ≡ digest_from h (drop i s)
 
-  pub summed_begin : count ≤ length s → Summed 0 0
-  summed_begin l = record { most = omega arith; room = l; same = refl }
+  pub summed_begin : Summed 0 0
+  summed_begin = record { most = omega arith; same = refl }
 
   module _ (h i : ℕ) (is : Summed h i) where
-    pub summed_more : (x : ℕ) → i < count → x ≡ digest_step h (get_or s i 0) → Summed x (i + 1)
+    pub summed_more : (x : ℕ) → i < length s → x ≡ digest_step h (get_or s i 0) → Summed x (i + 1)
     unfolding digest_from
-    summed_more x b e =
-        let inside : i < length (take count s) = omega (arith, length-take-le count s is.room) in
-        record {
-          most = omega arith;
-          room = is.room;
-          same = is.same ∙ rw (drop-cons (take count s) i 0 inside, get_or-take count s i 0 b, e, add-one);
-        }
+    summed_more x b e = record { most = omega arith; same = is.same ∙ rw (drop-cons s i 0 b, e, add-one) }
 
-    pub summed_done : count ≤ i → h ≡ digest_of (take count s)
+    pub summed_done : length s ≤ i → h ≡ digest_of s
     unfolding digest_from
-    summed_done b =
-        let past : length (take count s) ≤ i = omega (arith, length-take-le count s is.room) in
-        sym (is.same ∙ rw (drop_of_length-le (take count s) past))
+    summed_done b = sym (is.same ∙ rw (drop_of_length-le s b))
 
 pub step_sum : (h x s r : ℕ) → s ≡ (h * 131073 + x + 1) % 2 ^ 64 → r ≡ mixed s → r ≡ digest_step h x
 unfolding digest_step

@@ -7,17 +7,14 @@
 --   no_size, no_head, all_right   so of the whole
 --   size_right              saved bytes have their number
 --   accepted-is, refused-is what `restore` answers
-use Rattle.std.proofs.Common.{◌≡◌, ℕ, ◌+◌, ◌*◌, ◌≤◌, Bool, true, false, eqb, List, [], ◌∷◌, ◌++◌, length, take, sym, refl, ap, ◌∙◌, ap₂, append_assoc, arith, length-append, take_all, eq-eqb, ne_eqb, eqb-true}
+use Rattle.std.proofs.Common.{◌≡◌, Ok, Err, ℕ, ◌+◌, ◌*◌, ◌≤◌, Bool, true, false, eqb, List, [], ◌∷◌, ◌++◌, length, take, sym, refl, ap, ◌∙◌, ap₂, append_assoc, arith, length-append, take_all, eq-eqb, ne_eqb, eqb-true}
 use Rattle.build.specs.declared.Built.{Built}
-use Rattle.build.specs.mirror.Building.{no_built}
 use Rattle.board.specs.declared.Board.{Board}
-use Rattle.board.specs.Boards.{empty_board}
 use Rattle.calls.specs.declared.Judge.{Judge}
-use Rattle.calls.specs.mirror.Steps.{fresh}
 use Rattle.base.proofs.Tests.{by_test, not_both}
 use Rattle.text.specs.Writing.{Wrote}
 use Rattle.text.proofs.Fitting.{Put, put, ◌then◌, taken}
-use Rattle.base.specs.declared.Answer.TheVariants.{Accepted, Refused}
+use Rattle.base.specs.declared.Refusal.TheVariants.{NotSaved}
 use Rattle.saved_judge.specs.Little.{little_of, little_at, numbers_of}
 use Rattle.saved_judge.specs.Digest.{digest_of}
 use Rattle.saved_judge.specs.Saved.{Field, field, bytes_in, head_fields, number_fields, table_fields, board_fields, content_of, saved_of, head_right, is_saved, built_at, board_at, restore_outcome, restore_of}
@@ -129,11 +126,10 @@ module _ (b : List ℕ) where
       (λ f. let no : is_saved b ≡ false = rw f in not_both e no)
 
   pub accepted_is : (x : Built) (y : Board) → is_saved b ≡ true → x ≡ built_at b → y ≡ board_at b
-      → restore_outcome (record { answer = Accepted; judge = record { built = x; board = y } }) ≡ restore_of b
+      → restore_outcome (Ok (record { built = x; board = y })) ≡ restore_of b
   unfolding restore_of
   accepted_is x y e p q = rw (e, p, q)
 
-  pub refused_is : (x : Built) (y : Board) → is_saved b ≡ false → x ≡ no_built → y ≡ empty_board 0
-      → restore_outcome (record { answer = Refused 46; judge = record { built = x; board = y } }) ≡ restore_of b
-  unfolding restore_of fresh
-  refused_is x y e p q = rw (e, p, q)
+  pub refused_is : is_saved b ≡ false → restore_outcome (Err NotSaved) ≡ restore_of b
+  unfolding restore_of
+  refused_is e = rw e

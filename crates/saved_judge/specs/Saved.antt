@@ -17,20 +17,20 @@
 --   head_right b             mark, version and length of the bytes b are right
 --   is_saved b               so are the number of bytes and the digest
 --   built_at b, board_at b, judge_at b  what stands in the bytes b, number by number
---   Restored, restore_outcome  the outcome of restoring: that number, and the judge; and the outcome
---                            that the code's result stands for
---   restore_accepted j, restore_refused  accepted with the judge j; refused with 46, and then the
---                            judge is the fresh one
+--   Restored, restore_outcome  the outcome of restoring: the number of a refusal, and the judge,
+--                            which is the fresh one where there is none; and the outcome that the
+--                            code's result stands for
+--   restore_accepted j, restore_refused  accepted with the judge j; refused with 46
 --   restore_of b             the outcome of restoring the bytes b
-use Rattle.std.specs.Prelude.{ℕ, Bool, cond, ◌&&◌, List, [], ◌∷◌, ◌++◌, length, take, ◌==◌}
+use Rattle.std.specs.Prelude.{Result, Ok, Err, ℕ, Bool, cond, ◌&&◌, List, [], ◌∷◌, ◌++◌, length, take, ◌==◌}
 use Rattle.std.proofs.Math.Option.{Option, none, some}
-use Rattle.base.specs.Answers.{answer_number}
+use Rattle.base.specs.declared.Refusal.{Refusal}
+use Rattle.base.specs.Answers.{refusal_number}
 use Rattle.limits.specs.Limits.{most_states, most_sets, table_cells, most_places, end_cells}
 use Rattle.build.specs.declared.Built.{Built}
 use Rattle.board.specs.declared.Board.{Board}
 use Rattle.calls.specs.declared.Judge.{Judge}
 use Rattle.calls.specs.mirror.Steps.{fresh}
-use Rattle.saved_judge.specs.declared.RestoreResult.{RestoreResult}
 use Rattle.saved_judge.specs.Little.{little_of, little_at, numbers_of, numbers_at}
 use Rattle.saved_judge.specs.Digest.{digest_of}
 
@@ -135,8 +135,9 @@ pub record Restored : Type 0 where
   pub number : Option ℕ
   pub judge : Judge
 
-abbrev pub restore_outcome : RestoreResult → Restored
-restore_outcome r = record { number = answer_number r.answer; judge = r.judge }
+abbrev pub restore_outcome : Result Judge Refusal → Restored
+restore_outcome (Ok judge) = record { number = none; judge = judge }
+restore_outcome (Err refusal) = record { number = some (refusal_number refusal); judge = fresh }
 
 abbrev pub restore_accepted : Judge → Restored
 restore_accepted j = record { number = none; judge = j }

@@ -2,14 +2,15 @@
 // byte first, with a digest at the end. Any value of a judge is saved; any bytes may be handed in.
 #![tactic(auto)]
 
-ghost use Rattle.std.specs.Prelude.{◌≡◌, ◌+◌, ◌*◌, ◌^◌, ◌<◌, ◌≤◌, length, take};
+ghost use Rattle.std.specs.Prelude.{◌≡◌, ℕ, ◌+◌, ◌*◌, ◌^◌, ◌<◌, ◌≤◌, length, map, take};
+ghost use Rattle.std.proofs.Common.{lit≤};
 ghost use Rattle.text.specs.Writing.{Wrote};
 ghost use Rattle.saved_judge.specs.Little.{little_of, little_at, numbers_of, numbers_at};
 ghost use Rattle.saved_judge.specs.Digest.{mixed, digest_step, digest_of};
 ghost use Rattle.saved_judge.specs.Saved.{saved_size, bytes_in, head_fields, number_fields, table_fields, board_fields, saved_of, head_right, is_saved, built_at, board_at, restore_outcome, restore_of};
 ghost use Rattle.saved_judge.specs.Claims.{FitsBuilt, FitsBoard, Fits};
 
-use base::Answer;
+use base::Refusal;
 use board::Board;
 use build::Built;
 use calls::Judge;
@@ -28,11 +29,97 @@ pub struct Saved {
     pub bytes: [u8; SAVED],
 }
 
-// The answer, with the judge beside it: the fresh one where the bytes are refused.
-#[derive(Clone, Copy)]
-pub struct RestoreResult {
-    pub answer: Answer,
-    pub judge: Judge,
+// A type of numbers, all of which are saved in the same number of bytes.
+trait Number: Copy {
+    // How many bytes.
+    const WIDTH: usize;
+
+    ghost WIDTH: { ℕ };
+
+    ghost value: { Self → ℕ };
+
+    // The number with 64 bits.
+    fn wide(self) -> u64
+        ensures { result ≡ value self };
+
+    // The number of this type that so many bytes say.
+    fn narrow(number: u64) -> Self
+        requires { number < 256 ^ WIDTH }
+        ensures { value result ≡ number };
+
+    ghost at_most_eight: { WIDTH ≤ 8 };
+}
+
+impl Number for u8 {
+    const WIDTH: usize = 1;
+
+    ghost WIDTH = { 1 };
+
+    ghost value = { λ x. x };
+
+    ghost at_most_eight = { lit≤ tt };
+
+    fn wide(self) -> u64 {
+        self as u64
+    }
+
+    fn narrow(number: u64) -> u8 {
+        number as u8
+    }
+}
+
+impl Number for u16 {
+    const WIDTH: usize = 2;
+
+    ghost WIDTH = { 2 };
+
+    ghost value = { λ x. x };
+
+    ghost at_most_eight = { lit≤ tt };
+
+    fn wide(self) -> u64 {
+        self as u64
+    }
+
+    fn narrow(number: u64) -> u16 {
+        number as u16
+    }
+}
+
+impl Number for u32 {
+    const WIDTH: usize = 4;
+
+    ghost WIDTH = { 4 };
+
+    ghost value = { λ x. x };
+
+    ghost at_most_eight = { lit≤ tt };
+
+    fn wide(self) -> u64 {
+        self as u64
+    }
+
+    fn narrow(number: u64) -> u32 {
+        number as u32
+    }
+}
+
+impl Number for u64 {
+    const WIDTH: usize = 8;
+
+    ghost WIDTH = { 8 };
+
+    ghost value = { λ x. x };
+
+    ghost at_most_eight = { lit≤ tt };
+
+    fn wide(self) -> u64 {
+        self
+    }
+
+    fn narrow(number: u64) -> u64 {
+        number
+    }
 }
 
 // A number in so many bytes.
@@ -41,12 +128,10 @@ fn put_little(out: &mut [u8], start: usize, width: usize, number: u64) -> usize
     ensures { Wrote out.old start (little_of width number) out.new result × (result ≡ start + width) }
 {
     let mut at = start;
-    let mut left = width;
     let mut rest = number;
-    while left != 0 {
+    for _ in 0..width {
         at = text::put_byte(out, at, (rest % 256) as u8);
         rest = rest / 256;
-        left -= 1;
     }
     at
 }
@@ -57,115 +142,32 @@ fn get_little(bytes: &[u8], at: usize, width: usize) -> u64
     ensures { (result ≡ little_at width bytes.now at) × (result < 256 ^ width) }
 {
     let mut number: u64 = 0;
-    let mut left = width;
-    while left != 0 {
-        left -= 1;
-        number = 256 * number + (bytes[at + left] as u64);
+    for i in (0..width).rev() {
+        number = 256 * number + (bytes[at + i] as u64);
     }
     number
 }
 
-// Numbers in one byte each.
-fn put_u8s(out: &mut [u8], start: usize, cells: &[u8]) -> usize
-    requires { start + 1 * length cells.now ≤ length out.old }
-    ensures { Wrote out.old start (numbers_of 1 cells.now) out.new result × (result ≡ start + 1 * length cells.now) }
+// Numbers one after the other, in the bytes of their type each.
+fn put_cells<T: Number>(out: &mut [u8], start: usize, cells: &[T]) -> usize
+    requires { start + T.WIDTH * length cells.now ≤ length out.old }
+    ensures { Wrote out.old start (numbers_of T.WIDTH (map T.value cells.now)) out.new result
+        × (result ≡ start + T.WIDTH * length cells.now) }
 {
     let mut at = start;
-    let mut i: usize = 0;
-    while i < cells.len() {
-        at = put_little(out, at, 1, cells[i] as u64);
-        i += 1;
+    for &cell in cells {
+        at = put_little(out, at, T::WIDTH, cell.wide());
     }
     at
 }
 
-// Numbers in two bytes each.
-fn put_u16s(out: &mut [u8], start: usize, cells: &[u16]) -> usize
-    requires { start + 2 * length cells.now ≤ length out.old }
-    ensures { Wrote out.old start (numbers_of 2 cells.now) out.new result × (result ≡ start + 2 * length cells.now) }
+// As many numbers as there are cells, from the bytes of their type each.
+fn get_cells<T: Number>(bytes: &[u8], at: usize, cells: &mut [T])
+    requires { at + T.WIDTH * length cells.old ≤ length bytes.now }
+    ensures { map T.value cells.new ≡ numbers_at T.WIDTH (length cells.old) bytes.now at }
 {
-    let mut at = start;
-    let mut i: usize = 0;
-    while i < cells.len() {
-        at = put_little(out, at, 2, cells[i] as u64);
-        i += 1;
-    }
-    at
-}
-
-// Numbers in four bytes each.
-fn put_u32s(out: &mut [u8], start: usize, cells: &[u32]) -> usize
-    requires { start + 4 * length cells.now ≤ length out.old }
-    ensures { Wrote out.old start (numbers_of 4 cells.now) out.new result × (result ≡ start + 4 * length cells.now) }
-{
-    let mut at = start;
-    let mut i: usize = 0;
-    while i < cells.len() {
-        at = put_little(out, at, 4, cells[i] as u64);
-        i += 1;
-    }
-    at
-}
-
-// Numbers in eight bytes each.
-fn put_u64s(out: &mut [u8], start: usize, cells: &[u64]) -> usize
-    requires { start + 8 * length cells.now ≤ length out.old }
-    ensures { Wrote out.old start (numbers_of 8 cells.now) out.new result × (result ≡ start + 8 * length cells.now) }
-{
-    let mut at = start;
-    let mut i: usize = 0;
-    while i < cells.len() {
-        at = put_little(out, at, 8, cells[i]);
-        i += 1;
-    }
-    at
-}
-
-// As many numbers of one byte each as there are cells.
-fn get_u8s(bytes: &[u8], at: usize, cells: &mut [u8])
-    requires { at + 1 * length cells.old ≤ length bytes.now }
-    ensures { cells.new ≡ numbers_at 1 (length cells.old) bytes.now at }
-{
-    let mut i: usize = 0;
-    while i < cells.len() {
-        cells[i] = get_little(bytes, at + 1 * i, 1) as u8;
-        i += 1;
-    }
-}
-
-// As many numbers of two bytes each as there are cells.
-fn get_u16s(bytes: &[u8], at: usize, cells: &mut [u16])
-    requires { at + 2 * length cells.old ≤ length bytes.now }
-    ensures { cells.new ≡ numbers_at 2 (length cells.old) bytes.now at }
-{
-    let mut i: usize = 0;
-    while i < cells.len() {
-        cells[i] = get_little(bytes, at + 2 * i, 2) as u16;
-        i += 1;
-    }
-}
-
-// As many numbers of four bytes each as there are cells.
-fn get_u32s(bytes: &[u8], at: usize, cells: &mut [u32])
-    requires { at + 4 * length cells.old ≤ length bytes.now }
-    ensures { cells.new ≡ numbers_at 4 (length cells.old) bytes.now at }
-{
-    let mut i: usize = 0;
-    while i < cells.len() {
-        cells[i] = get_little(bytes, at + 4 * i, 4) as u32;
-        i += 1;
-    }
-}
-
-// As many numbers of eight bytes each as there are cells.
-fn get_u64s(bytes: &[u8], at: usize, cells: &mut [u64])
-    requires { at + 8 * length cells.old ≤ length bytes.now }
-    ensures { cells.new ≡ numbers_at 8 (length cells.old) bytes.now at }
-{
-    let mut i: usize = 0;
-    while i < cells.len() {
-        cells[i] = get_little(bytes, at + 8 * i, 8);
-        i += 1;
+    for (i, cell) in cells.iter_mut().enumerate() {
+        *cell = T::narrow(get_little(bytes, at + T::WIDTH * i, T::WIDTH));
     }
 }
 
@@ -199,10 +201,10 @@ fn put_tables(out: &mut [u8], start: usize, built: Built) -> usize
     requires { start + 18528 ≤ length out.old }
     ensures { Wrote out.old start (bytes_in (table_fields built)) out.new result × (result ≡ start + 18528) }
 {
-    let a = put_u8s(out, start, &built.delegates);
-    let b = put_u16s(out, a, &built.singles);
-    let c = put_u32s(out, b, &built.sets);
-    put_u16s(out, c, &built.next)
+    let a = put_cells(out, start, &built.delegates);
+    let b = put_cells(out, a, &built.singles);
+    let c = put_cells(out, b, &built.sets);
+    put_cells(out, c, &built.next)
 }
 
 // A board, in 9,281 bytes.
@@ -211,11 +213,11 @@ fn put_board(out: &mut [u8], start: usize, board: Board) -> usize
     ensures { Wrote out.old start (bytes_in (board_fields board)) out.new result × (result ≡ start + 9281) }
 {
     let a = put_little(out, start, 1, board.places as u64);
-    let b = put_u8s(out, a, &board.filled);
-    let c = put_u32s(out, b, &board.counts);
-    let d = put_u32s(out, c, &board.lengths);
-    let e = put_u64s(out, d, &board.revisions);
-    put_u32s(out, e, &board.ends)
+    let b = put_cells(out, a, &board.filled);
+    let c = put_cells(out, b, &board.counts);
+    let d = put_cells(out, c, &board.lengths);
+    let e = put_cells(out, d, &board.revisions);
+    put_cells(out, e, &board.ends)
 }
 
 // The halves of a number mixed and exchanged.
@@ -241,10 +243,8 @@ fn digest(bytes: &[u8], count: usize) -> u64
     ensures { result ≡ digest_of (take count bytes.now) }
 {
     let mut next: u64 = 0;
-    let mut i: usize = 0;
-    while i < count {
-        next = with_byte(next, bytes[i]);
-        i += 1;
+    for &byte in &bytes[..count] {
+        next = with_byte(next, byte);
     }
     next
 }
@@ -324,10 +324,10 @@ fn get_built(bytes: &[u8]) -> Built
     let mut singles = [0u16; limits::STATES];
     let mut sets = [0u32; limits::SETS];
     let mut next = [0u16; limits::CELLS];
-    get_u8s(bytes, 21, &mut delegates);
-    get_u16s(bytes, 53, &mut singles);
-    get_u32s(bytes, 117, &mut sets);
-    get_u16s(bytes, 2165, &mut next);
+    get_cells(bytes, 21, &mut delegates);
+    get_cells(bytes, 53, &mut singles);
+    get_cells(bytes, 117, &mut sets);
+    get_cells(bytes, 2165, &mut next);
     Built {
         n: get_little(bytes, 8, 1) as u8,
         k: get_little(bytes, 9, 1) as u8,
@@ -352,11 +352,11 @@ fn get_board(bytes: &[u8]) -> Board
     let mut lengths = [0u32; limits::PLACES];
     let mut revisions = [0u64; limits::PLACES];
     let mut ends = [0u32; limits::ENDS];
-    get_u8s(bytes, 18550, &mut filled);
-    get_u32s(bytes, 18614, &mut counts);
-    get_u32s(bytes, 18870, &mut lengths);
-    get_u64s(bytes, 19126, &mut revisions);
-    get_u32s(bytes, 19638, &mut ends);
+    get_cells(bytes, 18550, &mut filled);
+    get_cells(bytes, 18614, &mut counts);
+    get_cells(bytes, 18870, &mut lengths);
+    get_cells(bytes, 19126, &mut revisions);
+    get_cells(bytes, 19638, &mut ends);
     Board {
         places: get_little(bytes, 18549, 1) as u8,
         filled,
@@ -369,19 +369,13 @@ fn get_board(bytes: &[u8]) -> Board
 
 // The judge that was saved as the bytes, which may be any: refused with 46 unless their number, the
 // mark, the version, the length that they say and the digest are right.
-pub fn restore(bytes: &[u8]) -> RestoreResult
+pub fn restore(bytes: &[u8]) -> Result<Judge, Refusal>
     ensures { restore_outcome result ≡ restore_of bytes.now }
 {
-    if is_saved(bytes) {
-        let built = get_built(bytes);
-        let board = get_board(bytes);
-        let judge = Judge { built, board };
-        let answer = Answer::Accepted;
-        return RestoreResult { answer, judge };
+    if !is_saved(bytes) {
+        return Err(Refusal::NotSaved);
     }
-    let built = build::nothing_built();
-    let board = board::empty_board(0);
-    let judge = Judge { built, board };
-    let answer = Answer::Refused(46);
-    RestoreResult { answer, judge }
+    let built = get_built(bytes);
+    let board = get_board(bytes);
+    Ok(Judge { built, board })
 }

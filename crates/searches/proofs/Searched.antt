@@ -1,20 +1,22 @@
 -- What a table of keys tells of the search: which keys there are, and that a way back can be spelt.
 -- Assumes the table of any kind of keys, over at most 16 symbols.
+use Rattle.std.proofs.Common as code
+use Rattle.std.proofs.Common.{Some, None}
+use Rattle.std.specs.Option.{unwrap_or}
 use mathlib.Core.Path.{◌≡◌, refl, sym, ap, ◌∙◌}
 use mathlib.Core.List.{List}
 use Prim.Native.Nat.{ℕ, ◌≤◌, ◌<◌, min}
 use native.Mathlib.Omega.{arith}
 use lib.ListN.{length, get_or, take, length-take}
 use lib.Seq.{ext_get_or, get_or-take}
+use Rattle.base.specs.Options.{option_of}
 use Rattle.numbering.specs.Numbering.{Walk, keys_up_to}
 use Rattle.numbering.specs.mirror.Arrays.{limited, key_cells}
 use Rattle.numbering.proofs.Arrays.{cells_at, cells_long, whole_of, over_of, read_back}
 use Rattle.keys.specs.declared.Kind.{Kind}
 use Rattle.keys.specs.declared.KeyTable.{KeyTable}
-use Rattle.keys.specs.declared.Numbering.{Numbering}
-use Rattle.keys.specs.declared.Numbering.TheVariants.{Whole, Over}
 use Rattle.keys.specs.Kinds.{walk_by}
-use Rattle.keys.specs.Tables.{count_means, held_by, Table, table_outcome, cells_to, table_for, table_by}
+use Rattle.keys.specs.Tables.{Table, table_outcome, cells_to, table_for, table_by}
 use Rattle.searches.specs.mirror.Tables.{Tabled}
 
 module _ (kind : Kind) (ts us : List ℕ) (k m : ℕ) (columns : k ≤ 16) (t : KeyTable) (are : table_outcome t ≡ table_by kind ts us k m) where
@@ -28,7 +30,7 @@ module _ (kind : Kind) (ts us : List ℕ) (k m : ℕ) (columns : k ≤ 16) (t : 
   unfolding table_by
   table_is = are ∙ let e : min k 16 ≡ k = omega arith in rw e
 
-  count_told : count_means t.answer ≡ limited keys
+  count_told : option_of t.count ≡ limited keys
   count_told = ap (λ (x : Table). x.count) table_is
 
   pub next-is : t.next ≡ cells_to walk keys
@@ -49,12 +51,12 @@ module _ (kind : Kind) (ts us : List ℕ) (k m : ℕ) (columns : k ≤ 16) (t : 
     small = small;
   }
 
-  pub over_many : t.answer ≡ Over → 512 < length keys
-  over_many e = over_of keys (sym (ap count_means e) ∙ count_told)
+  pub over_many : t.count ≡ None → 512 < length keys
+  over_many e = over_of keys (sym (ap option_of e) ∙ count_told)
 
-  module _ (c : ℕ) (e : t.answer ≡ Whole c) where
+  module _ (c : ℕ) (e : t.count ≡ Some c) where
     whole : (length keys ≤ 512) × (c ≡ length keys)
-    whole = whole_of keys c (sym (ap count_means e) ∙ count_told)
+    whole = whole_of keys c (sym (ap option_of e) ∙ count_told)
 
     pub few : length keys ≤ 512
     few = whole.0
@@ -69,13 +71,13 @@ module _ (kind : Kind) (ts us : List ℕ) (k m : ℕ) (columns : k ≤ 16) (t : 
     keys_are = read_back keys t.keys c few count-is cells_are
 
   -- the first 512 keys, which the table holds
-  held_is : (r : Numbering) → t.answer ≡ r → held_by r ≡ min 512 (length keys)
-  held_is (Whole c) e = omega (arith, count-is c e, few c e)
-  held_is Over e = omega (arith, over_many e)
+  held_is : (r : code.Option ℕ) → t.count ≡ r → unwrap_or r 512 ≡ min 512 (length keys)
+  held_is (Some c) e = omega (arith, count-is c e, few c e)
+  held_is None e = omega (arith, over_many e)
 
-  module _ (c : ℕ) (held : c ≡ held_by t.answer) where
+  module _ (c : ℕ) (held : c ≡ unwrap_or t.count 512) where
     pub held_count : c ≡ length (take 512 keys)
-    held_count = held ∙ held_is t.answer refl ∙ sym (length-take 512 keys)
+    held_count = held ∙ held_is t.count refl ∙ sym (length-take 512 keys)
 
     pub held_most : c ≤ 512
     held_most = omega (arith, held_count, length-take 512 keys)

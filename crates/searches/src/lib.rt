@@ -33,14 +33,12 @@ fn first_symbol(next: &[u16; limits::CELLS], from: KeyNumber, k: usize, to: KeyN
     ensures { FirstIn next.now from.0 k to.0 result }
 {
     let row = from.0 as usize;
-    let mut s: usize = 0;
-    while s < k {
+    for s in 0..k {
         if next[row * limits::SYMBOLS + s] == to.0 {
             return s;
         }
-        s += 1;
     }
-    s
+    k
 }
 
 // The first cell of the table that holds the number, which is that of a key found from another. It
@@ -49,14 +47,11 @@ fn first_cell(next: &[u16; limits::CELLS], k: usize, number: KeyNumber) -> usize
     requires { (0 < number.0) × Tabled next.now k number.0 }
     ensures { result ≡ first_cell next.now number.0 }
 {
-    let rows = number.0;
-    let mut row: u16 = 0;
-    while row < rows {
+    for row in 0..number.0 {
         let symbol = first_symbol(next, KeyNumber(row), k, number);
         if symbol < k {
             return row as usize * limits::SYMBOLS + symbol;
         }
-        row += 1;
     }
     limits::CELLS
 }
@@ -84,12 +79,11 @@ fn front_text(word: &[u8]) -> Spelled
     ensures { Spells result word.now }
 {
     let mut text = [0u8; LONGEST];
-    let mut c: usize = 0;
-    while c < word.len() {
-        text[c] = word[c];
-        c += 1;
+    text[..word.len()].copy_from_slice(word);
+    Spelled {
+        length: word.len(),
+        text,
     }
-    Spelled { length: c, text }
 }
 
 // The text on the way back from the number.

@@ -5,6 +5,8 @@
 --   masks_are, cells_are      the lower halves of the sets are the sets, and the cells those of the
 --                             table
 --   table_whole, table_over   the ways out
+use Rattle.std.proofs.Common as code
+use Rattle.std.proofs.Common.{Some, None}
 use mathlib.Core.Path.{◌≡◌, refl, sym, ap, ◌∙◌}
 use mathlib.Core.Bool.{Bool, true, false, cond}
 use mathlib.Core.List.{List, [], ◌∷◌}
@@ -16,6 +18,7 @@ use lib.ListN.{length, get_or, get_or-eq_default}
 use lib.Pow.{pow-lt}
 use borrow.Author.Tests.{le-ltb, lt-ltb, ltb-true, ltb-false}
 use Rattle.base.specs.Lists.{list_from}
+use Rattle.base.specs.Options.{option_of}
 use Rattle.base.proofs.Lists.{cell_of_lem, same_list}
 use Rattle.base.proofs.Tests.{by_test, zero_one}
 use Rattle.masks.specs.Masks.{single}
@@ -27,14 +30,9 @@ use Rattle.numbering.specs.mirror.Arrays.{cell_to, ArraysHold, Grown}
 use Rattle.numbering.proofs.Claims as numbering
 use Rattle.numbering.proofs.Arrays.{whole_of, over_of}
 use Rattle.numbering.proofs.Table.{next_whole, row_test_lem}
-use Rattle.keys.specs.declared.Numbering.{Numbering}
-use Rattle.keys.specs.declared.Numbering.TheVariants as keys
-use Rattle.keys.specs.Tables.{count_means}
-use Rattle.subsets.specs.declared.Numbering.TheVariants.{Whole}
-use Rattle.subsets.specs.declared.SetTable.{SetTable}
 use Rattle.subsets.specs.Sets.{set_walk, sets_of, too_many, next_set, set_cells, next_cells}
 use Rattle.subsets.specs.mirror.Singles.{singles_of}
-use Rattle.subsets.specs.mirror.Answer.{counted, refused, no_table, table_outcome, table_of}
+use Rattle.subsets.specs.mirror.Answer.{counted, refused, table_outcome, table_of}
 
 -- ---- at most 512, where `over` says whether they are too many
 pub told_counted : (over : Bool) (count c : ℕ) → counted c ≡ cond over (refused 9) (counted count) → (over ≡ false) × (c ≡ count)
@@ -78,16 +76,16 @@ module _ (ts : List ℕ) (n k : ℕ) (words : (i : ℕ) → get_or ts i 0 < 2 ^ 
       next_whole (set_walk ts k) 512 f sets next h
       ∙ same_list 8192 (cell_to (set_walk ts k) 512 f (length f * 16)) (λ c. next_set ts n k (c / 16) (c % 16)) (λ c b. rw (row_test_lem (length f) c))
 
-  module _ (r : Numbering) (sets next : List ℕ) (grown : Grown (set_walk ts k) 512 (sets_of ts n k) (count_means r) sets next) where
-    pub table_whole : (c : ℕ) → r ≡ keys.Whole c → (singles masks : List ℕ) → singles ≡ singles_of sets c → masks ≡ list_from 0 512 (λ i. get_or sets i 0 % 2 ^ 32)
-        → table_outcome (record { answer = Whole c; sets = masks; next = next; singles = singles }) ≡ table_of ts n k
+  module _ (r : code.Option ℕ) (sets next : List ℕ) (grown : Grown (set_walk ts k) 512 (sets_of ts n k) (option_of r) sets next) where
+    pub table_whole : (c : ℕ) → r ≡ Some c → (singles masks : List ℕ) → singles ≡ singles_of sets c → masks ≡ list_from 0 512 (λ i. get_or sets i 0 % 2 ^ 32)
+        → table_outcome (Some (record { count = c; sets = masks; next = next; singles = singles })) ≡ table_of ts n k
     unfolding table_of too_many
     table_whole c e singles masks are low =
-        let x = whole_of (sets_of ts n k) c (sym (ap count_means e) ∙ grown.count) in
+        let x = whole_of (sets_of ts n k) c (sym (ap option_of e) ∙ grown.count) in
         let h = grown.held x.0 in
         rw (are, low ∙ masks_are sets h.keys_are, le-ltb 512 (length (sets_of ts n k)) x.0, h.keys_are, cells_are sets next h, x.1)
 
-    pub table_over : r ≡ keys.Over → (t : SetTable) → table_outcome t ≡ no_table → table_outcome t ≡ table_of ts n k
+    pub table_over : r ≡ None → table_outcome None ≡ table_of ts n k
     unfolding table_of too_many
-    table_over e t is =
-        rw (lt-ltb 512 (length (sets_of ts n k)) (over_of (sets_of ts n k) (sym (ap count_means e) ∙ grown.count))) is
+    table_over e =
+        rw (lt-ltb 512 (length (sets_of ts n k)) (over_of (sets_of ts n k) (sym (ap option_of e) ∙ grown.count)))

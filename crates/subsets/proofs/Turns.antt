@@ -4,6 +4,8 @@
 --   in_row       a symbol of 16 or more leads to the empty set
 --   not_empty    {q} is not empty
 --   states-..    the turn of {q}: its sets are numbered, or the 513th turned up
+use Rattle.std.proofs.Common as code
+use Rattle.std.proofs.Common.{Some, None}
 use mathlib.Core.Path.{◌≡◌, sym, ap, ◌∙◌}
 use mathlib.Core.Bool.{false}
 use mathlib.Core.List.{List}
@@ -14,6 +16,7 @@ use lib.Dec.{ltb}
 use lib.ListN.{take}
 use lib.Pow.{pow_pos}
 use borrow.Author.Tests.{ne_eqb, eqb-false, ltb-true, ltb-false}
+use Rattle.base.specs.Options.{option_of}
 use Rattle.base.proofs.Tests.{by_test}
 use Rattle.masks.specs.Masks.{single}
 use Rattle.automaton.specs.Successor.{successor}
@@ -24,9 +27,6 @@ use Rattle.numbering.proofs.Numbers.{begins_length}
 use Rattle.numbering.proofs.Closure.{up_to_begins}
 use Rattle.numbering.proofs.Arrays.{over_of}
 use Rattle.numbering.proofs.Turns.{grown_over, grown_read}
-use Rattle.keys.specs.declared.Numbering.{Numbering}
-use Rattle.keys.specs.declared.Numbering.TheVariants.{Whole, Over}
-use Rattle.keys.specs.Tables.{count_means}
 use Rattle.subsets.specs.Sets.{is_empty, set_walk, sets_up_to, sets_of}
 
 pub in_row : (ts : List ℕ) (k : ℕ) → InRow (set_walk ts k)
@@ -37,20 +37,20 @@ in_row ts k m s _ ne =
 pub not_empty : (m q : ℕ) → m ≡ single q → is_empty m ≡ false
 not_empty m q is = ne_eqb m 0 (λ z. omega (arith, is, pow_pos q))
 
-module _ (ts : List ℕ) (k q m : ℕ) (one : m ≡ single q) (l : List ℕ) (is : l ≡ sets_up_to ts k q) (r : Numbering) (sets next : List ℕ)
-    (g : Added (set_walk ts k) 512 l m (count_means r) sets next) where
+module _ (ts : List ℕ) (k q m : ℕ) (one : m ≡ single q) (l : List ℕ) (is : l ≡ sets_up_to ts k q) (r : code.Option ℕ) (sets next : List ℕ)
+    (g : Added (set_walk ts k) 512 l m (option_of r) sets next) where
   grown_is : grown_by (set_walk ts k) 512 l m ≡ sets_up_to ts k (q + 1)
   unfolding keys_up_to
   grown_is = rw (is, one, add-one)
 
-  pub states_more : (c : ℕ) → r ≡ Whole c → (c ≤ 512) × (take c sets ≡ sets_up_to ts k (q + 1)) × ArraysHold (set_walk ts k) 512 (take c sets) (c * 16) sets next
+  pub states_more : (c : ℕ) → r ≡ Some c → (c ≤ 512) × (take c sets ≡ sets_up_to ts k (q + 1)) × ArraysHold (set_walk ts k) 512 (take c sets) (c * 16) sets next
   states_more c e =
-      let x = grown_read (set_walk ts k) 512 c (rw (ap count_means e) at g.grown) in
+      let x = grown_read (set_walk ts k) 512 c (rw (ap option_of e) at g.grown) in
       (x.0, x.1 ∙ grown_is, x.2)
 
-  pub states_over : r ≡ Over → (n : ℕ) → q < min n 32 → Grown (set_walk ts k) 512 (sets_of ts n k) (count_means Over) sets next
+  pub states_over : r ≡ None → (n : ℕ) → q < min n 32 → Grown (set_walk ts k) 512 (sets_of ts n k) (option_of None) sets next
   unfolding sets_of
   states_over e n b =
-      let long = rw grown_is at (over_of (grown_by (set_walk ts k) 512 l m) (sym (ap count_means e) ∙ g.grown.count)) in
+      let long = rw grown_is at (over_of (grown_by (set_walk ts k) 512 l m) (sym (ap option_of e) ∙ g.grown.count)) in
       grown_over (set_walk ts k) 512 (sets_of ts n k) sets next
       (omega (arith, long, begins_length (up_to_begins (set_walk ts k) single (q + 1) (min n 32) (omega arith))))

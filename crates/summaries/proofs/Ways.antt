@@ -13,19 +13,21 @@ use lib.Dec.{eqb}
 use lib.ListN.{length}
 use borrow.Author.Tests.{eq-eqb, ne_eqb}
 use Rattle.base.proofs.Tests.{by_test, zero_one}
+use Rattle.std.proofs.Common.{Result, Ok, Err}
+use Rattle.base.specs.declared.Refusal.{Refusal}
+use Rattle.base.specs.Answers.{refusal_number}
 use Rattle.masks.specs.Masks.{shares}
 use Rattle.marks.specs.Marks.{text_of}
 use Rattle.compositions.specs.Relations.{image_of}
 use Rattle.digests.specs.Digests.{digest_of}
+use Rattle.chunks.specs.declared.Runs.{Runs}
 use Rattle.chunks.specs.Chunks.{foreign}
 use Rattle.chunks.specs.Taking.{chunk_number}
 use Rattle.chunks.specs.mirror.Walks.{delegate_mask, run_mask, runs_of}
 use Rattle.chunks.proofs.Claims as chunks
-use Rattle.deliveries.specs.declared.Attempt.{Attempt}
 use Rattle.deliveries.specs.mirror.Attempts as attempts
 use Rattle.calls.specs.declared.Judge.{Judge}
-use Rattle.calls.specs.declared.DeliverAnswer.TheVariants as delivery
-use Rattle.calls.specs.Replies.{Judgement, Reported, refused_with, refused, delivered, deliver_means}
+use Rattle.calls.specs.Replies.{Judgement, Reported, refused_with, refused, delivered}
 use Rattle.calls.specs.Calls.{alone, report_by}
 use Rattle.summaries.specs.declared.Summary.{Summary}
 use Rattle.summaries.specs.Summaries.{follows, place_of, made_from, Summarized, summary_refused, summary_number, summarize_of, said_by, conclude_number, conclude_of}
@@ -74,7 +76,7 @@ module _ (j : Judge) (number : ℕ) (w : List ℕ) (o : Summarized) where
 
     module _ (short : length w ≤ 65536) (place : ℕ) (at : place ≡ place_of number)
         (mask : ℕ) (masked : mask ≡ run_mask j.built.delegates j.built.n j.built.initials place)
-        (t : Attempt) (came : attempts.attempt_means t ≡ attempts.attempt_of j.built.sets j.built.next j.built.singles mask j.built.k false (text_of w)) where
+        (t : Result Runs Refusal) (came : attempts.attempt_means t ≡ attempts.attempt_of j.built.sets j.built.next j.built.singles mask j.built.k false (text_of w)) where
       foreign_there : foreign (text_of w) j.built.k ≡ true → attempts.attempt_means t ≡ attempts.refused_with 13
       unfolding attempts.attempt_of
       foreign_there f = came ∙ rw f
@@ -83,33 +85,36 @@ module _ (j : Judge) (number : ℕ) (w : List ℕ) (o : Summarized) where
       unfolding attempts.attempt_of
       ran_there f = came ∙ rw f
 
-      pub summary_refused_lem : (x : ℕ) → t.answer ≡ delivery.Refused x → o ≡ summary_refused x → o ≡ summarize_of j number w
+      pub summary_refused_lem : (e : Refusal) → t ≡ Err e → o ≡ summary_refused (refusal_number e) → o ≡ summarize_of j number w
       unfolding summarize_of summary_number
-      summary_refused_lem x told is =
+      summary_refused_lem e told is =
+          let x : ℕ = refusal_number e in
+          let so : attempts.attempt_means t ≡ attempts.refused_with x = ap attempts.attempt_means told in
           by_test (foreign (text_of w) j.built.k)
           (λ f.
-          let y : refused x ≡ refused 13 = sym (ap deliver_means told) ∙ ap (λ (a : attempts.Attempted). a.reply) (foreign_there f) in
+          let y : refused x ≡ refused 13 = ap (λ (a : attempts.Attempted). a.reply) (sym so ∙ foreign_there f) in
           let thirteen : x ≡ 13 = cc in
           let z : chunk_number j.built.k w ≡ some 13 = ((chunks.claims).taking j.built.k w).number_13.1 (short, f) in
           is ∙ rw (ne_eqb j.built.n 0 there, z, thirteen))
           (λ f.
           let y : refused x ≡ delivered (runs_of j.built.sets j.built.next j.built.singles mask (text_of w)).looked =
-          sym (ap deliver_means told) ∙ ap (λ (a : attempts.Attempted). a.reply) (ran_there f) in
+          ap (λ (a : attempts.Attempted). a.reply) (sym so ∙ ran_there f) in
           zero_one cc)
 
-      pub summary_made : (looked : ℕ) → t.answer ≡ delivery.Accepted looked
-          → (a : Summary) → a ≡ made_from j.built number t.runs
+      pub summary_made : (runs : Runs) → t ≡ Ok runs
+          → (a : Summary) → a ≡ made_from j.built number runs
           → o ≡ record { refusal = none; summary = a }
           → o ≡ summarize_of j number w
       unfolding summarize_of summary_number
-      summary_made looked told a made is =
+      summary_made runs told a made is =
+          let so : attempts.attempt_means t ≡ attempts.ran_to runs = ap attempts.attempt_means told in
           by_test (foreign (text_of w) j.built.k)
           (λ f.
-          let y : delivered looked ≡ refused 13 = sym (ap deliver_means told) ∙ ap (λ (a : attempts.Attempted). a.reply) (foreign_there f) in
+          let y : delivered runs.looked ≡ refused 13 = ap (λ (a : attempts.Attempted). a.reply) (sym so ∙ foreign_there f) in
           zero_one cc)
           (λ f.
           let z : chunk_number j.built.k w ≡ none = ((chunks.claims).taking j.built.k w).taken.1 (short, f) in
-          is ∙ rw (made, ne_eqb j.built.n 0 there, z, ap (λ (a : attempts.Attempted). a.runs) (ran_there f), masked, at))
+          is ∙ rw (made, ne_eqb j.built.n 0 there, z, ap (λ (a : attempts.Attempted). a.runs) (sym so ∙ ran_there f), masked, at))
 
 -- ---- concluding
 module _ (j : Judge) (a : Summary) (chunks : ℕ) (r : Reported) where

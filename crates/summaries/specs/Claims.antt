@@ -45,7 +45,7 @@ pub record SummarizedExactly (j : Judge) (number : ℕ) (w : List ℕ) : Type 0 
   pub taken : ((summarize_of j number w).refusal ≡ none)
       ↔ ((0 < j.built.n) × (length w ≤ longest_chunk) × (foreign (text_of w) j.built.k ≡ false))
   pub no_other : (x : ℕ) → (summarize_of j number w).refusal ≡ some x → (x ≡ 20) ⊎ (x ≡ 12) ⊎ (x ≡ 13)
-  -- a refusal carries zeros, and is broken
+  -- beside a refusal stand zeros, and it is broken
   pub zeros : (x : ℕ) → (summarize_of j number w).refusal ≡ some x → (summarize_of j number w).summary ≡ no_summary
   -- else it has the number of its chunk and the next one, and is whole; but for the largest number,
   -- which has none after it

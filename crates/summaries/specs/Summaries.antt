@@ -27,7 +27,7 @@
 --                      none after it: broken
 --   Summarized, summary_outcome  the answer, none or the number of a refusal, and the summary; and
 --                      what the code's result stands for
---   no_summary, summary_refused x  zeros, and broken: what a refusal carries; refused with x
+--   no_summary, summary_refused x  zeros, and broken: what stands beside a refusal; refused with x
 --   summary_number j w  the number of the refusal: 20, without a rule; 12, 13 (chunks' chunk_number)
 --   summarize_of j number w  what the judge j answers to the chunk w of that number: refused
 --                      (summary_by), or its summary
@@ -39,9 +39,10 @@
 --   conclude_of j a chunks  the report, which is refused (conclude_by) by these conditions in this
 --                      order; else yes exactly where a final start is reached, with the count and
 --                      its quotient by the bytes (document 02, R-1)
-use Rattle.std.specs.Prelude.{Bool, cond, ◌&&◌, ◌||◌, not, List, [], ◌∷◌, ℕ, zero, suc, ◌+◌, min, eqb, ltb, get_or, replicate}
+use Rattle.std.specs.Prelude.{Result, Ok, Err, Bool, cond, ◌&&◌, ◌||◌, not, List, [], ◌∷◌, ℕ, zero, suc, ◌+◌, min, eqb, ltb, get_or, replicate}
 use Rattle.std.proofs.Math.Option.{Option, none, some}
-use Rattle.base.specs.Answers.{answer_number}
+use Rattle.base.specs.declared.Refusal.{Refusal}
+use Rattle.base.specs.Answers.{refusal_number}
 use Rattle.limits.specs.Limits.{most_states, largest_number}
 use Rattle.base.specs.Conditions.{Condition, on, first_of}
 use Rattle.base.specs.Lists.{list_from}
@@ -58,7 +59,6 @@ use Rattle.calls.specs.Replies.{Judgement, Reported, yes_with, no_with, refused_
 use Rattle.calls.specs.Calls.{alone, report_by}
 use Rattle.calls.specs.mirror.Steps.{lacks_rule}
 use Rattle.summaries.specs.declared.Summary.{Summary}
-use Rattle.summaries.specs.declared.SummaryResult.{SummaryResult}
 
 -- ---- two summaries
 abbrev pub capped : ℕ → ℕ
@@ -108,14 +108,15 @@ pub record Summarized : Type 0 where
   pub refusal : Option ℕ
   pub summary : Summary
 
-abbrev pub summary_outcome : SummaryResult → Summarized
-summary_outcome r = record { refusal = answer_number r.answer; summary = r.summary }
-
 abbrev pub no_summary : Summary
 no_summary = record { leads = replicate most_states 0; count = 0; bytes = 0; rule = 0; first = 0; end = 0; broken = 1 }
 
 abbrev pub summary_refused : ℕ → Summarized
 summary_refused number = record { refusal = some number; summary = no_summary }
+
+abbrev pub summary_outcome : Result Summary Refusal → Summarized
+summary_outcome (Ok summary) = record { refusal = none; summary = summary }
+summary_outcome (Err refusal) = summary_refused (refusal_number refusal)
 
 abbrev pub summary_by : Option ℕ → Summary → Summarized
 summary_by none a = record { refusal = none; summary = a }

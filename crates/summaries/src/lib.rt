@@ -4,15 +4,16 @@
 #![tactic(auto)]
 
 ghost use Rattle.std.specs.Prelude.{◌≡◌, cond, ◌+◌, ltb};
+ghost use Rattle.base.specs.Answers.{refusal_number};
 ghost use Rattle.limits.specs.Limits.{most_states, largest_number};
 ghost use Rattle.compositions.specs.Relations.{image_of};
 ghost use Rattle.calls.specs.Calls.{alone};
 ghost use Rattle.calls.specs.Replies.{refused_with, verdict_means, report_means};
-ghost use Rattle.summaries.specs.Summaries.{capped, follows as followsIt, combine as combineOf, place_of, leads_of, made_from, summary_outcome, summary_refused, summarize_of, said_by, conclude_of};
+ghost use Rattle.summaries.specs.Summaries.{capped, follows as followsIt, combine as combineOf, place_of, leads_of, made_from, summary_outcome, summarize_of, said_by, conclude_of};
 
-use base::Answer;
+use base::Refusal;
 use build::Built;
-use calls::{DeliverAnswer, Judge, Report, Verdict};
+use calls::{Judge, Report, Verdict};
 use chunks::Runs;
 
 // For each state that was run the mask of the delegates of its end set's members, 0 for every other
@@ -29,13 +30,6 @@ pub struct Summary {
     pub first: u64,
     pub end: u64,
     pub broken: u8,
-}
-
-// The answer, with the summary beside it: zeros, and broken, where the chunk is refused.
-#[derive(Clone, Copy)]
-pub struct SummaryResult {
-    pub answer: Answer,
-    pub summary: Summary,
 }
 
 // The union of the leads of the set's members.
@@ -94,10 +88,8 @@ pub fn combine(earlier: Summary, later: Summary) -> Summary
     let first = earlier.leads;
     let second = later.leads;
     let mut leads = [0u32; limits::STATES];
-    let mut q: usize = 0;
-    while q < limits::STATES {
-        leads[q] = image(&second, first[q]);
-        q += 1;
+    for (q, lead) in first.iter().enumerate() {
+        leads[q] = image(&second, *lead);
     }
     Summary {
         leads,
@@ -108,23 +100,6 @@ pub fn combine(earlier: Summary, later: Summary) -> Summary
         end: later.end,
         broken: gap(earlier, later),
     }
-}
-
-fn refuse_chunk(number: u8) -> SummaryResult
-    ensures { summary_outcome result ≡ summary_refused number }
-{
-    let answer = Answer::Refused(number);
-    let leads = [0u32; limits::STATES];
-    let summary = Summary {
-        leads,
-        count: 0,
-        bytes: 0,
-        rule: 0,
-        first: 0,
-        end: 0,
-        broken: 1,
-    };
-    SummaryResult { answer, summary }
 }
 
 // The place that a chunk is run as at: 0 for chunk 0, 1 for any other.
@@ -150,10 +125,8 @@ fn leads_of(
     ensures { result ≡ leads_of delegates n ends }
 {
     let mut leads = [0u32; limits::STATES];
-    let mut q: usize = 0;
-    while q < limits::STATES {
-        leads[q] = chunks::delegate_mask(delegates, n, ends[q]);
-        q += 1;
+    for (q, end) in ends.iter().enumerate() {
+        leads[q] = chunks::delegate_mask(delegates, n, *end);
     }
     leads
 }
@@ -178,19 +151,19 @@ fn summary_of(built: Built, number: u64, runs: Runs) -> Summary
 // The summary of the chunk of that number, by the judge's rule: of its text, which is the chunk
 // without its idle marks. Chunk 0 is run from the delegates of initial states, any other from all
 // starts. Refused with 20 without a rule, 12 and 13.
-pub fn summarize(judge: Judge, number: u64, chunk: &[u8]) -> SummaryResult
+pub fn summarize(judge: Judge, number: u64, chunk: &[u8]) -> Result<Summary, Refusal>
     ensures { summary_outcome result ≡ summarize_of judge number chunk.now }
 {
     let built = judge.built;
     if built.n == 0 {
-        return refuse_chunk(20);
+        return Err(Refusal::NoRule);
     }
     if limits::CHUNK < chunk.len() {
-        return refuse_chunk(12);
+        return Err(Refusal::LongChunk);
     }
     let delegates = built.delegates;
     let mask = chunks::run_mask(delegates, built.n, built.initials, place_of(number));
-    let attempt = deliveries::run_delivery(
+    let runs = deliveries::run_delivery(
         &built.sets,
         &built.next,
         &built.singles,
@@ -198,22 +171,15 @@ pub fn summarize(judge: Judge, number: u64, chunk: &[u8]) -> SummaryResult
         built.k,
         false,
         chunk,
-    );
-    let came = attempt.answer;
-    if let DeliverAnswer::Refused(x) = came {
-        return refuse_chunk(x);
-    }
-    let answer = Answer::Accepted;
-    let runs = attempt.runs;
-    let summary = summary_of(built, number, runs);
-    SummaryResult { answer, summary }
+    )?;
+    Ok(summary_of(built, number, runs))
 }
 
-// Refused with that number, and three zeros.
-fn refuse_report(number: u8) -> Report
-    ensures { report_means result ≡ alone (refused_with number) }
+// Refused, and three zeros.
+fn refuse_report(refusal: Refusal) -> Report
+    ensures { report_means result ≡ alone (refused_with (refusal_number refusal)) }
 {
-    verdicts::report_on(Verdict::Refused(number), 0)
+    verdicts::report_on(Verdict::Refused(refusal), 0)
 }
 
 fn verdict_of(yes: bool, count: u64) -> Verdict
@@ -233,22 +199,22 @@ pub fn conclude(judge: Judge, summary: Summary, chunks: u64) -> Report
 {
     let built = judge.built;
     if built.n == 0 {
-        return refuse_report(20);
+        return refuse_report(Refusal::NoRule);
     }
     if summary.broken != 0 {
-        return refuse_report(42);
+        return refuse_report(Refusal::BrokenSummary);
     }
     if summary.first != 0 {
-        return refuse_report(42);
+        return refuse_report(Refusal::BrokenSummary);
     }
     if summary.rule != digests::digest(built) {
-        return refuse_report(43);
+        return refuse_report(Refusal::OtherRule);
     }
     if chunks == 0 {
-        return refuse_report(44);
+        return refuse_report(Refusal::MissingEnd);
     }
     if summary.end != chunks {
-        return refuse_report(44);
+        return refuse_report(Refusal::MissingEnd);
     }
     let delegates = built.delegates;
     let leads = summary.leads;

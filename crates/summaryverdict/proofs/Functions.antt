@@ -3,6 +3,8 @@ use mathlib.Core.Path.{◌≡◌, sym, ap, ◌∙◌, subst}
 use mathlib.Core.List.{List}
 use mathlib.Core.Option.{Option, some}
 use Prim.Native.Nat.{ℕ}
+use Rattle.std.proofs.Common.{Result}
+use Rattle.base.specs.declared.Refusal.{Refusal}
 use Rattle.automaton.specs.declared.Rule.{Rule}
 use Rattle.executions.specs.Executions.{Execution}
 use Rattle.calls.specs.declared.Judge.{Judge}
@@ -13,7 +15,6 @@ use Rattle.histories.specs.History.{rule_there}
 use Rattle.histories.specs.Functions.{judge_library}
 use Rattle.histories.proofs.Refinement.{after_any_list}
 use Rattle.summaries.specs.declared.Summary.{Summary}
-use Rattle.summaries.specs.declared.SummaryResult.{SummaryResult}
 use Rattle.summaries.specs.Summaries.{combine, Summarized, summary_outcome, summarize_of, conclude_of}
 use Rattle.summaryverdict.specs.Traces.{judge_of, summary_at, Reports, Used}
 use Rattle.summaryverdict.specs.Lists.{summary_there, conclude_there}
@@ -22,7 +23,7 @@ use Rattle.summaryverdict.proofs.Lists.{list_claims}
 use Rattle.summaryverdict.proofs.Gathering.{gathered_used, gathered_reports}
 
 module _ (h : List Call) (rs : List Reply) (j : Judge) (ran : Execution judge_library h rs j) where
-  summarize : (number : ℕ) (w : List ℕ) (x : SummaryResult) → MaySummarize j number w x → summary_outcome x ≡ summary_there (rule_there h) number w
+  summarize : (number : ℕ) (w : List ℕ) (x : Result Summary Refusal) → MaySummarize j number w x → summary_outcome x ≡ summary_there (rule_there h) number w
   summarize number w x m =
       m.4
       ∙ ap (λ (v : List ℕ). summarize_of j number v) m.3

@@ -10,12 +10,13 @@
 --   SummarizedOn r     on some machine calls were made after which the rule r is there, and the
 --                      function gave this summary
 --   numbered_from p ws  the chunks ws, numbered from p on
-use Rattle.std.specs.Prelude.{◌≡◌, ◌↔◌, List, [], ◌∷◌, ◌++◌, ℕ, suc, ◌≤◌, length}
+use Rattle.std.specs.Prelude.{Result, ◌≡◌, ◌↔◌, List, [], ◌∷◌, ◌++◌, ℕ, suc, ◌≤◌, length}
 use Rattle.std.proofs.Math.Option.{none, some}
 use contract.Lifetimes.{Lfts}
 use Rattle.std.specs.Borrow.{Bor}
 use denote.Triple.Clauses.{AtExit}
 use borrow.Fn.Kinds.{ended_of}
+use Rattle.base.specs.declared.Refusal.{Refusal}
 use Rattle.limits.specs.Limits.{largest_number}
 use Rattle.automaton.specs.declared.Rule.{Rule}
 use Rattle.executions.specs.Executions.{Execution}
@@ -26,7 +27,6 @@ use Rattle.calls.specs.Calls.{Call}
 use Rattle.histories.specs.History.{rule_there}
 use Rattle.histories.specs.Functions.{judge_library}
 use Rattle.summaries.specs.declared.Summary.{Summary}
-use Rattle.summaries.specs.declared.SummaryResult.{SummaryResult}
 use Rattle.summaries.specs.Summaries.{combine, summary_outcome}
 use Rattle.summaries.proofs.summarize.Reads as summarize_reads
 use Rattle.summaries.proofs.summarize.Kinds as summarize_kinds
@@ -38,7 +38,7 @@ use Rattle.summaryverdict.specs.Traces.{Numbered, SummarizesAll, Reports, Used}
 use Rattle.summaryverdict.specs.Lists.{summary_there, conclude_there}
 
 -- a chunk is lent, as a reference to its bytes
-abbrev pub MaySummarize : Judge → ℕ → List ℕ → SummaryResult → Type 0
+abbrev pub MaySummarize : Judge → ℕ → List ℕ → Result Summary Refusal → Type 0
 MaySummarize j number w r =
     (κs : Lfts 1) × (c : Bor (List ℕ)) × (s : AtExit (ended_of 1 summarize_kinds.ps summarize_kinds.r) κs) × (c.now ≡ w)
     × summarize_reads.Learnt κs (j, (number, (c, tt))) r s
@@ -56,8 +56,8 @@ pub data Gathered (Makes : ℕ → List ℕ → Summary → Type 0) (Puts : Summ
 
 abbrev pub SummarizedOn : Rule → ℕ → List ℕ → Summary → Type 0
 SummarizedOn r number w a =
-    (h : List Call) × (rs : List Reply) × (j : Judge) × (x : SummaryResult)
-    × Execution judge_library h rs j × (rule_there h ≡ some r) × MaySummarize j number w x × (a ≡ x.summary)
+    (h : List Call) × (rs : List Reply) × (j : Judge) × (x : Result Summary Refusal)
+    × Execution judge_library h rs j × (rule_there h ≡ some r) × MaySummarize j number w x × (a ≡ (summary_outcome x).summary)
 
 unfoldable pub numbered_from : ℕ → List (List ℕ) → List Numbered
 numbered_from p [] = []
@@ -66,7 +66,7 @@ numbered_from p (w ∷ ws) = record { number = p; chunk = w } ∷ numbered_from 
 pub record FunctionClaims : Type 0 where
   -- ---- each function
   pub summarize : (h : List Call) (rs : List Reply) (j : Judge) → Execution judge_library h rs j
-      → (number : ℕ) (w : List ℕ) (x : SummaryResult) → MaySummarize j number w x → summary_outcome x ≡ summary_there (rule_there h) number w
+      → (number : ℕ) (w : List ℕ) (x : Result Summary Refusal) → MaySummarize j number w x → summary_outcome x ≡ summary_there (rule_there h) number w
   pub combine_fixed : (a b c : Summary) → MayCombine a b c ↔ (c ≡ combine a b)
   pub conclude : (h : List Call) (rs : List Reply) (j : Judge) → Execution judge_library h rs j
       → (a : Summary) (chunks : ℕ) (x : Report) → MayConclude j a chunks x → report_means x ≡ conclude_there (rule_there h) a chunks

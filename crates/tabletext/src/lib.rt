@@ -9,8 +9,7 @@ ghost use Rattle.forms.specs.Back.{back_of};
 ghost use Rattle.formline.specs.Lines.{line_in};
 ghost use Rattle.tabletext.specs.Answers.{bare_cell, cell_text, cells_text, table_line, back_text, answer_text, most_answer};
 
-use base::Answer;
-use formline::LineKind;
+use base::Refusal;
 use forms::{Form, Table};
 use subsets::SetNumber;
 
@@ -50,11 +49,9 @@ fn put_cells(
     ensures { (Wrote out.old start (cells_text next.now k count) out.new result) × (result ≤ start + 4 * count) }
 {
     let mut at = start;
-    let mut c: usize = 0;
-    while c < count {
+    for c in 0..count {
         let to = next[c / k * limits::SYMBOLS + c % k];
         at = put_cell(out, at, c, SetNumber(to));
-        c += 1;
     }
     at
 }
@@ -76,11 +73,9 @@ fn put_back(out: &mut [u8], at: usize, form: Form) -> usize
     requires { at + most_answer ≤ length out.old }
     ensures { Wrote out.old at (back_text (back_of form)) out.new result }
 {
-    let back = formback::table_of(form);
-    let answer = back.answer;
-    match answer {
-        Answer::Accepted => put_table(out, at, back.table),
-        Answer::Refused(number) => answers::put_refused(out, at, number),
+    match formback::table_of(form) {
+        Ok(table) => put_table(out, at, table),
+        Err(refusal) => answers::put_refused(out, at, refusal.number()),
     }
 }
 
@@ -90,11 +85,11 @@ pub fn put_answer(out: &mut [u8], at: usize, line: &[u8]) -> usize
     requires { at + most_answer ≤ length out.old }
     ensures { Wrote out.old at (answer_text (line_in line.now)) out.new result }
 {
-    let read = formline::read_line(line);
-    let kind = read.kind;
-    match kind {
-        LineKind::Says => put_back(out, at, read.form),
-        LineKind::TooGreat => answers::put_refused(out, at, 40),
-        LineKind::Malformed => answers::put_malformed(out, at),
+    let Some(said) = formline::read_line(line) else {
+        return answers::put_malformed(out, at);
+    };
+    match said {
+        Ok(form) => put_back(out, at, form),
+        Err(_) => answers::put_refused(out, at, Refusal::NoForm.number()),
     }
 }

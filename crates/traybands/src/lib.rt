@@ -3,9 +3,8 @@
 // as 1.
 #![tactic(auto)]
 
-ghost use Rattle.std.specs.Prelude.{◌≡◌, false, cond, ◌≤◌, ◌<◌, eqb, length, get_or};
-ghost use Rattle.base.specs.Totals.{total};
-ghost use Rattle.trays.specs.Sizes.{most_width, most_bands, most_rows, tray_cells};
+ghost use Rattle.std.specs.Prelude.{◌≡◌, false, ◌≤◌, ◌<◌, get_or};
+ghost use Rattle.trays.specs.Sizes.{most_width, most_bands, most_rows};
 ghost use Rattle.trays.specs.Calls.{not_rows};
 ghost use Rattle.trays.specs.Boards.{width_of, bands_of, count_in, is_empty, empty_board, band_set, filled_at, cleared_at, empty_bands};
 
@@ -15,7 +14,7 @@ use trays::TrayBoard;
 pub fn bands_of(board: TrayBoard) -> usize
     ensures { result ≡ bands_of board }
 {
-    base::at_most(board.bands as usize, trays::BANDS)
+    (board.bands as usize).min(trays::BANDS)
 }
 
 // How many events a row has: 1 to 16.
@@ -25,7 +24,7 @@ pub fn width_of(board: TrayBoard) -> usize
     if board.width < 1 {
         return 1;
     }
-    base::at_most(board.width as usize, trays::WIDTH)
+    (board.width as usize).min(trays::WIDTH)
 }
 
 // How many rows the band has: 64 at most.
@@ -33,7 +32,7 @@ pub fn row_count(rows: &[u8; trays::BANDS], band: usize) -> usize
     requires { band < most_bands }
     ensures { (result ≡ count_in rows.now band) × (result ≤ most_rows) }
 {
-    base::at_most_u8(rows[band], trays::MOST_ROWS) as usize
+    rows[band].min(trays::MOST_ROWS) as usize
 }
 
 // Whether the band is not there.
@@ -71,14 +70,6 @@ pub fn not_rows(board: TrayBoard, bytes: &[u8]) -> bool
     trays::ROWS < bytes.len() / width
 }
 
-// An array has its length: this only says so, and is compiled to nothing.
-fn cells_of(cells: &[u8; trays::CELLS]) -> usize
-    ensures { length cells.now ≡ tray_cells }
-{
-    let s: &[u8] = cells;
-    s.len()
-}
-
 // The byte, and 0 behind the last.
 fn byte_at(bytes: &[u8], i: usize) -> u8
     ensures { result ≡ get_or bytes.now i 0 }
@@ -91,11 +82,8 @@ fn set_band(cells: &mut [u8; trays::CELLS], band: usize, bytes: &[u8])
     requires { band < most_bands }
     ensures { cells.new ≡ band_set cells.old band bytes.now }
 {
-    cells_of(cells);
-    let mut i: usize = 0;
-    while i < trays::BAND {
+    for i in 0..trays::BAND {
         cells[band * trays::BAND + i] = byte_at(bytes, i);
-        i += 1;
     }
 }
 
@@ -126,26 +114,10 @@ pub fn clear(board: TrayBoard, band: usize) -> TrayBoard
     cleared
 }
 
-// How many of the first n marks say empty.
-fn count_empty(filled: &[u8; trays::BANDS], n: usize) -> u8
-    requires { n ≤ most_bands }
-    ensures { result ≡ total (λ p. cond (eqb (get_or filled.now p 0) 0) 1 0) n }
-{
-    let mut empty: u8 = 0;
-    let mut p: usize = 0;
-    while p < n {
-        if filled[p] == 0 {
-            empty += 1;
-        }
-        p += 1;
-    }
-    empty
-}
-
 // How many bands are empty.
 pub fn empty_bands(board: TrayBoard) -> u8
     ensures { result ≡ empty_bands board }
 {
     let bands = bands_of(board);
-    count_empty(&board.filled, bands)
+    board::count_empty(&board.filled, bands)
 }

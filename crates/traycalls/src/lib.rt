@@ -2,14 +2,15 @@
 #![tactic(auto)]
 
 ghost use Rattle.std.specs.Prelude.{◌≡◌, false, ◌||◌, ◌<◌, eqb};
+ghost use Rattle.base.specs.Answers.{refusal_number};
 ghost use Rattle.trays.specs.Replies.{accepted, refused, install_means, verdict_means};
 ghost use Rattle.trays.specs.Calls.{not_rows, foreign_to};
 ghost use Rattle.trays.specs.Boards.{width_of, bands_of};
 ghost use Rattle.trays.specs.mirror.Steps.{fresh, with_board, with_row, with_column, install_answer, install_outcome, call_outcome, install_of, install_row_of, install_column_of, open_of, deliver_of, withdraw_of, verdict_of};
 
 use automaton::Rule;
-use base::Answer;
-use build::BuildAnswer;
+use base::Refusal;
+use calls::Sizes;
 use trays::{CallResult, InstallResult, Tray, TrayBoard, TrayVerdict};
 
 // A tray with no rules and no board.
@@ -34,33 +35,31 @@ fn with_board(tray: Tray, board: TrayBoard) -> Tray
 fn accept(tray: Tray) -> CallResult
     ensures { call_outcome result ≡ record { reply = accepted; state = tray } }
 {
-    let answer = Answer::Accepted;
-    CallResult { answer, tray }
+    CallResult {
+        answer: Ok(()),
+        tray,
+    }
 }
 
-fn refuse(tray: Tray, number: u8) -> CallResult
-    ensures { call_outcome result ≡ record { reply = refused number; state = tray } }
+fn refuse(tray: Tray, refusal: Refusal) -> CallResult
+    ensures { call_outcome result ≡ record { reply = refused (refusal_number refusal); state = tray } }
 {
-    let answer = Answer::Refused(number);
-    CallResult { answer, tray }
+    CallResult {
+        answer: Err(refusal),
+        tray,
+    }
 }
 
 // What an installation of the rule, which may be any value, answers.
-fn answer_to(rule: Rule) -> BuildAnswer
+fn answer_to(rule: Rule) -> Result<Sizes, Refusal>
     ensures { install_means result ≡ install_answer rule }
 {
-    let checked = rulecheck::check_rule(rule);
-    match checked {
-        Answer::Refused(number) => BuildAnswer::Refused(number),
-        Answer::Accepted => {
-            let building = build::build_rule(rule);
-            let answer = building.answer;
-            match answer {
-                BuildAnswer::Refused(number) => BuildAnswer::Refused(number),
-                BuildAnswer::Accepted(sets, starts) => BuildAnswer::Accepted(sets, starts),
-            }
-        }
-    }
+    rulecheck::check_rule(rule)?;
+    let built = build::build_rule(rule)?;
+    Ok(Sizes {
+        sets: built.setcount,
+        starts: built.startcount,
+    })
 }
 
 // The tray with the rule for its rows, and no board.
@@ -93,10 +92,15 @@ fn with_column(tray: Tray, rule: Rule) -> Tray
 fn install(tray: Tray, rule: Rule, next: Tray) -> InstallResult
     ensures { install_outcome result ≡ install_of tray rule next }
 {
-    let answer = answer_to(rule);
-    match answer {
-        BuildAnswer::Refused(_) => InstallResult { answer, tray },
-        BuildAnswer::Accepted(_, _) => InstallResult { answer, tray: next },
+    match answer_to(rule) {
+        Err(refusal) => InstallResult {
+            answer: Err(refusal),
+            tray,
+        },
+        Ok(sizes) => InstallResult {
+            answer: Ok(sizes),
+            tray: next,
+        },
     }
 }
 
@@ -131,13 +135,13 @@ pub fn open(tray: Tray, width: usize, bands: usize) -> CallResult
     let row = tray.row;
     let column = tray.column;
     if lacks_rule(row.n, column.n) {
-        return refuse(tray, 20);
+        return refuse(tray, Refusal::NoRule);
     }
     if rulecheck::outside(width, trays::WIDTH) {
-        return refuse(tray, 38);
+        return refuse(tray, Refusal::Width);
     }
     if rulecheck::outside(bands, trays::BANDS) {
-        return refuse(tray, 10);
+        return refuse(tray, Refusal::PlaceCount);
     }
     let board = traybands::empty_board(width as u8, bands as u8);
     accept(with_board(tray, board))
@@ -161,11 +165,11 @@ fn deliver_rows(tray: Tray, band: usize, bytes: &[u8]) -> CallResult
     let row = tray.row;
     let column = tray.column;
     if has_foreign(bytes, row.k, column.k) {
-        return refuse(tray, 13);
+        return refuse(tray, Refusal::ForeignByte);
     }
     let board = tray.board;
     if !traybands::is_empty(board, band) {
-        return refuse(tray, 22);
+        return refuse(tray, Refusal::NotDue);
     }
     accept(with_board(tray, traybands::fill(board, band, bytes)))
 }
@@ -176,13 +180,13 @@ pub fn deliver(tray: Tray, band: usize, bytes: &[u8]) -> CallResult
 {
     let board = tray.board;
     if board.bands == 0 {
-        return refuse(tray, 21);
+        return refuse(tray, Refusal::NoBoard);
     }
     if traybands::bands_of(board) <= band {
-        return refuse(tray, 11);
+        return refuse(tray, Refusal::NoPlace);
     }
     if traybands::not_rows(board, bytes) {
-        return refuse(tray, 39);
+        return refuse(tray, Refusal::NotRows);
     }
     deliver_rows(tray, band, bytes)
 }
@@ -193,13 +197,13 @@ pub fn withdraw(tray: Tray, band: usize) -> CallResult
 {
     let board = tray.board;
     if board.bands == 0 {
-        return refuse(tray, 21);
+        return refuse(tray, Refusal::NoBoard);
     }
     if traybands::bands_of(board) <= band {
-        return refuse(tray, 11);
+        return refuse(tray, Refusal::NoPlace);
     }
     if traybands::is_empty(board, band) {
-        return refuse(tray, 23);
+        return refuse(tray, Refusal::EmptyPlace);
     }
     accept(with_board(tray, traybands::clear(board, band)))
 }
@@ -210,7 +214,7 @@ pub fn ask_verdict(tray: Tray) -> TrayVerdict
 {
     let board = tray.board;
     if board.bands == 0 {
-        return TrayVerdict::Refused(21);
+        return TrayVerdict::Refused(Refusal::NoBoard);
     }
     let empty = traybands::empty_bands(board);
     if empty != 0 {

@@ -6,28 +6,30 @@
 -- each answer type has a value that says what the definition wants.
 use mathlib.Core.Path.{◌≡◌, refl, sym, ap, ap₂, ◌∙◌, subst}
 use mathlib.Core.Logic.{◌↔◌}
-use mathlib.Core.Bool.{not}
-use mathlib.Core.List.{List, []}
+use mathlib.Core.Bool.{Bool, true, false, cond, not}
+use mathlib.Core.List.{List, [], ◌++◌}
 use mathlib.Core.Option.{Option, none, some}
 use Prim.Native.Nat.{ℕ}
+use lib.Dec.{eqb}
+use Rattle.std.proofs.Common.{Ok, Err}
+use Rattle.base.specs.declared.Refusal.TheVariants.{StateCount, SymbolCount, StrayState, BadArcs, TooManySets, PlaceCount, NoPlace, ForeignByte, NoRule, NoBoard, NotDue, EmptyPlace, Width, NotRows}
 use Rattle.base.specs.Conditions.{first_of}
 use Rattle.executions.specs.Executions.{Execution, Meets}
 use Rattle.executions.proofs.Executions.{execution_law}
 use Rattle.automaton.specs.declared.Rule.{Rule}
 use Rattle.build.specs.mirror.Building.{built_of}
-use Rattle.calls.specs.Calls.{install_number}
-use Rattle.histories.proofs.Refinement.{lent}
+use Rattle.rulecheck.specs.Checking.{rule_conditions}
+use Rattle.calls.specs.Calls.{many_sets, install_number}
+use Rattle.histories.proofs.Refinement.{Answerable, answerable, lent}
 use Rattle.trays.specs.declared.Tray.{Tray}
 use Rattle.trays.specs.declared.InstallResult.{InstallResult}
-use Rattle.build.specs.declared.BuildAnswer.TheVariants as installation
 use Rattle.trays.specs.declared.CallResult.{CallResult}
-use Rattle.base.specs.declared.Answer.TheVariants as answer
 use Rattle.trays.specs.declared.TrayVerdict.{TrayVerdict}
 use Rattle.trays.specs.declared.TrayVerdict.TheVariants as verdict
-use Rattle.trays.specs.Replies.{Judgement, waiting, says_yes, says_no, refused_with, Reply, accepted, installed, judged, verdict_means}
+use Rattle.trays.specs.Replies.{Judgement, waiting, says_yes, says_no, refused_with, refusal_in, Reply, accepted, refused, installed, judged, verdict_means}
 use Rattle.trays.specs.Calls.{Call, installs_row, installs_column, opens, delivers, withdraws, asks_verdict, open_conditions, deliver_conditions, withdraw_conditions}
-use Rattle.trays.specs.Boards.{width_of, bands_of, is_empty, empty_board, filled_at, cleared_at}
-use Rattle.trays.specs.mirror.Steps.{Outcome, lacks_rule, lacks_board, with_board, install_outcome, call_outcome, outcome_by, with_row, with_column, install_row_of, install_column_of, open_of, deliver_of, withdraw_of, verdict_of, step_of}
+use Rattle.trays.specs.Boards.{width_of, bands_of, is_empty, empty_board, filled_at, cleared_at, empty_bands}
+use Rattle.trays.specs.mirror.Steps.{Outcome, lacks_rule, lacks_board, with_board, install_outcome, call_outcome, outcome_by, with_row, with_column, install_row_of, install_column_of, open_of, deliver_of, withdraw_of, is_yes, verdict_of, step_of}
 use Rattle.traycalls.proofs.Asks.{new_tray_asks_nothing, install_row_asks_nothing, install_column_asks_nothing, open_asks_nothing, deliver_asks_nothing, withdraw_asks_nothing, verdict_asks_nothing}
 use Rattle.trayhistories.specs.Claims.{tray_machine, tray_after, replies_to, Invariant}
 use Rattle.trayhistories.specs.Functions.{AsksStep, MayStep, tray_library, EveryRun}
@@ -35,45 +37,68 @@ use Rattle.trayhistories.proofs.EveryList.{every_list}
 
 -- ---- the outcome of a call, as a value of its answer type
 module _ (t next : Tray) where
-  an_installation : (number : Option ℕ) (sets m : ℕ) → (r : InstallResult) × (install_outcome r ≡ outcome_by number (installed sets m) t next)
-  an_installation none sets m = (record { answer = installation.Accepted sets m; tray = next }, refl)
-  an_installation (some x) sets m = (record { answer = installation.Refused x; tray = t }, refl)
+  an_installation : (number : Option ℕ) → Answerable number → (sets m : ℕ)
+      → (r : InstallResult) × (install_outcome r ≡ outcome_by number (installed sets m) t next)
+  an_installation none a sets m = (record { answer = Ok (record { sets = sets; starts = m }); tray = next }, refl)
+  an_installation (some x) a sets m = (record { answer = Err a.0; tray = t }, ap (λ (y : ℕ). record { reply = refused y; state = t }) a.1)
 
-  a_call : (number : Option ℕ) → (r : CallResult) × (call_outcome r ≡ outcome_by number accepted t next)
-  a_call none = (record { answer = answer.Accepted; tray = next }, refl)
-  a_call (some x) = (record { answer = answer.Refused x; tray = t }, refl)
+  a_call : (number : Option ℕ) → Answerable number → (r : CallResult) × (call_outcome r ≡ outcome_by number accepted t next)
+  a_call none a = (record { answer = Ok tt; tray = next }, refl)
+  a_call (some x) a = (record { answer = Err a.0; tray = t }, ap (λ (y : ℕ). record { reply = refused y; state = t }) a.1)
 
-a_judgement : (v : Judgement) → (x : TrayVerdict) × (verdict_means x ≡ v)
-a_judgement (waiting empty) = (verdict.Waiting empty, refl)
-a_judgement says_yes = (verdict.Yes, refl)
-a_judgement says_no = (verdict.No, refl)
-a_judgement (refused_with number) = (verdict.Refused number, refl)
+a_judgement : (v : Judgement) → Answerable (refusal_in v) → (x : TrayVerdict) × (verdict_means x ≡ v)
+a_judgement (waiting empty) a = (verdict.Waiting empty, refl)
+a_judgement says_yes a = (verdict.Yes, refl)
+a_judgement says_no a = (verdict.No, refl)
+a_judgement (refused_with number) a = (verdict.Refused a.0, ap refused_with a.1)
+
+-- a verdict is refused with 21 alone
+answerable_verdict : (lacks none-empty says : Bool) (empty : ℕ)
+    → Answerable (refusal_in (cond lacks (refused_with 21) (cond none-empty (cond says says_yes says_no) (waiting empty))))
+answerable_verdict true none-empty says empty = (NoBoard, refl)
+answerable_verdict false false says empty = tt
+answerable_verdict false true true empty = tt
+answerable_verdict false true false empty = tt
 
 module _ (t : Tray) where
+  -- what an installation of the rule may be refused with
+  answerable_rule : (rule : Rule) → Answerable (install_number rule)
+  unfolding install_number
+  answerable_rule rule =
+      answerable (rule_conditions rule ++ many_sets rule) ((StateCount, refl), ((SymbolCount, refl), ((StrayState, refl), ((BadArcs, refl), ((TooManySets, refl), tt)))))
+
   row_of_lem : (rule : Rule) → (r : InstallResult) × (install_outcome r ≡ install_row_of t rule)
   unfolding install_row_of
-  row_of_lem rule = an_installation t (with_row t rule) (install_number rule) (built_of rule).setcount (built_of rule).startcount
+  row_of_lem rule =
+      an_installation t (with_row t rule) (install_number rule) (answerable_rule rule) (built_of rule).setcount (built_of rule).startcount
 
   column_of_lem : (rule : Rule) → (r : InstallResult) × (install_outcome r ≡ install_column_of t rule)
   unfolding install_column_of
-  column_of_lem rule = an_installation t (with_column t rule) (install_number rule) (built_of rule).setcount (built_of rule).startcount
+  column_of_lem rule =
+      an_installation t (with_column t rule) (install_number rule) (answerable_rule rule) (built_of rule).setcount (built_of rule).startcount
 
   opening_of : (w n : ℕ) → (r : CallResult) × (call_outcome r ≡ open_of t w n)
   unfolding open_of
-  opening_of w n = a_call t (with_board t (empty_board w n)) (first_of (open_conditions (lacks_rule t) w n))
+  opening_of w n =
+      let cs = open_conditions (lacks_rule t) w n in
+      a_call t (with_board t (empty_board w n)) (first_of cs) (answerable cs ((NoRule, refl), ((Width, refl), ((PlaceCount, refl), tt))))
 
   delivery_of : (p : ℕ) (b : List ℕ) → (r : CallResult) × (call_outcome r ≡ deliver_of t p b)
   unfolding deliver_of
   delivery_of p b =
-      a_call t (with_board t (filled_at t.board p b))
-      (first_of
-      (deliver_conditions (lacks_board t) (bands_of t.board) (width_of t.board) t.row.k t.column.k (not (is_empty t.board p)) p b))
+      let cs = deliver_conditions (lacks_board t) (bands_of t.board) (width_of t.board) t.row.k t.column.k (not (is_empty t.board p)) p b in
+      a_call t (with_board t (filled_at t.board p b)) (first_of cs)
+      (answerable cs ((NoBoard, refl), ((NoPlace, refl), ((NotRows, refl), ((ForeignByte, refl), ((NotDue, refl), tt))))))
 
   withdrawal_of : (p : ℕ) → (r : CallResult) × (call_outcome r ≡ withdraw_of t p)
   unfolding withdraw_of
   withdrawal_of p =
-      a_call t (with_board t (cleared_at t.board p))
-      (first_of (withdraw_conditions (lacks_board t) (bands_of t.board) (is_empty t.board p) p))
+      let cs = withdraw_conditions (lacks_board t) (bands_of t.board) (is_empty t.board p) p in
+      a_call t (with_board t (cleared_at t.board p)) (first_of cs) (answerable cs ((NoBoard, refl), ((NoPlace, refl), ((EmptyPlace, refl), tt))))
+
+  verdict_for : (x : TrayVerdict) × (verdict_means x ≡ verdict_of t)
+  unfolding verdict_of
+  verdict_for = a_judgement (verdict_of t) (answerable_verdict (lacks_board t) (eqb (empty_bands t.board) 0) (is_yes t) (empty_bands t.board))
 
 -- ---- the library meets the machine
 -- an outcome is its reply and its state
@@ -107,7 +132,7 @@ step_back t (delivers p b) a next e =
 step_back t (withdraws p) a next e =
     let r = withdrawal_of t p in
     (r.0, ((t, (p, tt)), r.1), whole a next (withdraw_of t p) e ∙ sym r.1)
-step_back t asks_verdict a next e = let r = a_judgement (verdict_of t) in (r.0, ((t, tt), r.1), e.0 ∙ ap judged (sym r.1), e.1)
+step_back t asks_verdict a next e = let r = verdict_for t in (r.0, ((t, tt), r.1), e.0 ∙ ap judged (sym r.1), e.1)
 
 asks_nothing : (t : Tray) (c : Call) → AsksStep t c
 asks_nothing t (installs_row rule) = install_row_asks_nothing t rule

@@ -8,10 +8,10 @@ use mathlib.Core.Bool.{Bool, true, false}
 use mathlib.Core.List.{List}
 use mathlib.Core.Option.{Option, none, some}
 use Prim.Native.Nat.{ℕ}
-use Rattle.base.specs.Answers.{answer_number}
+use Rattle.std.proofs.Common.{Ok, Err}
+use Rattle.base.specs.declared.Refusal.{Refusal}
+use Rattle.base.specs.Answers.{refusal_number}
 use Rattle.automaton.specs.declared.Rule.{Rule}
-use Rattle.base.specs.declared.Answer.TheVariants as reading
-use Rattle.ruleformat.specs.declared.ReadResult.{ReadResult}
 use Rattle.ruleformat.specs.Refusals.{refusal}
 use Rattle.ruleformat.specs.Reader.{rule_of, rule_by, Reading, read_outcome, read_of}
 use Rattle.calls.specs.Calls.{install_number, load_number}
@@ -21,37 +21,34 @@ use Rattle.trays.specs.Replies.{refused, with_sets}
 use Rattle.trays.specs.mirror.Steps.{Outcome, outcome_by, with_row, with_column, install_row_of, install_column_of}
 use Rattle.traylines.specs.Running.{load_row_of, load_column_of, load_of}
 
-module _ (t : Tray) (f : List ℕ) (read : ReadResult) (reads : read_outcome read ≡ read_of f) where
-  number_is : answer_number read.answer ≡ refusal f
-  number_is = ap (λ (x : Reading). x.number) reads
-
+module _ (t : Tray) (f : List ℕ) where
   -- with `next r` the tray that the rule r leaves
   module _ (next : Rule → Tray) where
-    unread : (number : ℕ) → read.answer ≡ reading.Refused number
-        → record { reply = refused number; state = t } ≡ outcome_by (load_number f) (with_sets (rule_of f)) t (next (rule_of f))
-    unread number told =
-        let refused_by_lem : refusal f ≡ some number = sym number_is ∙ ap answer_number told in
+    unread : (e : Refusal) → read_outcome (Err e) ≡ read_of f
+        → record { reply = refused (refusal_number e); state = t } ≡ outcome_by (load_number f) (with_sets (rule_of f)) t (next (rule_of f))
+    unread e is =
+        let refused_by_lem : refusal f ≡ some (refusal_number e) = sym (ap (λ (x : Reading). x.number) is) in
         rw (load_number_lem f, refused_by_lem)
 
-    installs : read.answer ≡ reading.Accepted
-        → outcome_by (install_number read.rule) (with_sets read.rule) t (next read.rule)
-        ≡ outcome_by (load_number f) (with_sets (rule_of f)) t (next (rule_of f))
-    installs told =
-        let passes : refusal f ≡ none = sym number_is ∙ ap answer_number told in
-        let rule : read.rule ≡ rule_of f = ap (λ (x : Reading). x.rule) reads ∙ ap (λ (o : Option ℕ). rule_by o f) passes in
-        ap (λ (r : Rule). outcome_by (install_number r) (with_sets r) t (next r)) rule
+    installs : (r : Rule) → read_outcome (Ok r) ≡ read_of f
+        → outcome_by (install_number r) (with_sets r) t (next r) ≡ outcome_by (load_number f) (with_sets (rule_of f)) t (next (rule_of f))
+    installs r is =
+        let passes : refusal f ≡ none = sym (ap (λ (x : Reading). x.number) is) in
+        let rule : r ≡ rule_of f = ap (λ (x : Reading). x.rule) is ∙ ap (λ (o : Option ℕ). rule_by o f) passes in
+        ap (λ (x : Rule). outcome_by (install_number x) (with_sets x) t (next x)) rule
         ∙ ap (λ (o : Option ℕ). outcome_by o (with_sets (rule_of f)) t (next (rule_of f))) (sym (load_installs f passes))
 
-  module _ (o : Outcome) where
-    pub file_unread : (rows : Bool) (number : ℕ) → read.answer ≡ reading.Refused number → o ≡ record { reply = refused number; state = t } → o ≡ load_of rows t f
-    unfolding load_row_of load_column_of
-    file_unread true number told e = e ∙ unread (with_row t) number told
-    file_unread false number told e = e ∙ unread (with_column t) number told
+  pub file_unread : (rows : Bool) (e : Refusal) → read_outcome (Err e) ≡ read_of f
+      → record { reply = refused (refusal_number e); state = t } ≡ load_of rows t f
+  unfolding load_row_of load_column_of
+  file_unread true e is = unread (with_row t) e is
+  file_unread false e is = unread (with_column t) e is
 
-    pub row_read : {rows : Bool} → rows ≡ true → read.answer ≡ reading.Accepted → o ≡ install_row_of t read.rule → o ≡ load_of rows t f
+  module _ (r : Rule) (is : read_outcome (Ok r) ≡ read_of f) (o : Outcome) where
+    pub row_read : {rows : Bool} → rows ≡ true → o ≡ install_row_of t r → o ≡ load_of rows t f
     unfolding load_row_of install_row_of
-    row_read side told e = rw side (e ∙ installs (with_row t) told)
+    row_read side e = rw side (e ∙ installs (with_row t) r is)
 
-    pub column_read : {rows : Bool} → rows ≡ false → read.answer ≡ reading.Accepted → o ≡ install_column_of t read.rule → o ≡ load_of rows t f
+    pub column_read : {rows : Bool} → rows ≡ false → o ≡ install_column_of t r → o ≡ load_of rows t f
     unfolding load_column_of install_column_of
-    column_read side told e = rw side (e ∙ installs (with_column t) told)
+    column_read side e = rw side (e ∙ installs (with_column t) r is)

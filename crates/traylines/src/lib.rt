@@ -5,15 +5,11 @@
 ghost use Rattle.std.specs.Prelude.{◌≡◌, ◌≤◌, length};
 ghost use Rattle.std.proofs.Math.Option.{some};
 ghost use Rattle.fields.specs.Bytes.{parse_bytes};
-ghost use Rattle.trays.specs.Replies.{refused};
 ghost use Rattle.trays.specs.Calls.{opens, withdraws, asks_verdict};
 ghost use Rattle.trays.specs.mirror.Steps.{install_outcome};
 ghost use Rattle.traytext.specs.Lines.{again, call, malformed, deliver_by, line_in};
 ghost use Rattle.traylines.specs.Running.{bytes_room, file_by, load_of, line_step, run_outcome, Scratch};
 
-use base::Answer;
-use build::BuildAnswer;
-use fields::Bytes;
 use trays::{InstallResult, Tray};
 use traytext::{Line, LineAnswer};
 
@@ -21,26 +17,20 @@ use traytext::{Line, LineAnswer};
 // than a band.
 pub const BYTES: usize = limits::FILE + 1;
 
-fn refuse_file(tray: Tray, number: u8) -> InstallResult
-    ensures { install_outcome result ≡ record { reply = refused number; state = tray } }
-{
-    let answer = BuildAnswer::Refused(number);
-    InstallResult { answer, tray }
-}
-
 // Reads a rule file and installs the rule, for the rows or for the columns.
 fn load(tray: Tray, rows: bool, file: &[u8]) -> InstallResult
     ensures { install_outcome result ≡ load_of rows tray file.now }
 {
-    let reading = rulefile::read(file);
-    let read = reading.answer;
-    match read {
-        Answer::Refused(number) => refuse_file(tray, number),
-        Answer::Accepted => {
+    match rulefile::read(file) {
+        Err(refusal) => InstallResult {
+            answer: Err(refusal),
+            tray,
+        },
+        Ok(rule) => {
             if rows {
-                traycalls::install_row(tray, reading.rule)
+                traycalls::install_row(tray, rule)
             } else {
-                traycalls::install_column(tray, reading.rule)
+                traycalls::install_column(tray, rule)
             }
         }
     }
@@ -76,13 +66,11 @@ fn run_file(tray: Tray, rows: bool, field: &[u8], buffer: &mut [u8]) -> LineRun
     ensures result_value { run_outcome result ≡ line_step tray (file_by rows (parse_bytes field.now)) }
     ensures scratch { Scratch buffer.old buffer.new }
 {
-    let bytes = fields::read_bytes(field, buffer);
-    match bytes {
-        Bytes::Malformed => run_malformed(tray),
-        Bytes::Put(n) => {
+    match fields::read_bytes(field, buffer) {
+        None => run_malformed(tray),
+        Some(n) => {
             let loading = load(tray, rows, &buffer[..n]);
-            let said = loading.answer;
-            let answer = LineAnswer::Install(said);
+            let answer = LineAnswer::Install(loading.answer);
             let tray = loading.tray;
             LineRun { answer, tray }
         }
@@ -93,8 +81,7 @@ fn run_open(tray: Tray, width: u64, bands: u64) -> LineRun
     ensures { run_outcome result ≡ line_step tray (call (opens width bands)) }
 {
     let opening = traycalls::open(tray, width as usize, bands as usize);
-    let said = opening.answer;
-    let answer = LineAnswer::Call(said);
+    let answer = LineAnswer::Call(opening.answer);
     let tray = opening.tray;
     LineRun { answer, tray }
 }
@@ -104,13 +91,11 @@ fn run_deliver(tray: Tray, band: u64, field: &[u8], buffer: &mut [u8]) -> LineRu
     ensures result_value { run_outcome result ≡ line_step tray (deliver_by (some band) (parse_bytes field.now)) }
     ensures scratch { Scratch buffer.old buffer.new }
 {
-    let bytes = fields::read_bytes(field, buffer);
-    match bytes {
-        Bytes::Malformed => run_malformed(tray),
-        Bytes::Put(n) => {
+    match fields::read_bytes(field, buffer) {
+        None => run_malformed(tray),
+        Some(n) => {
             let delivery = traycalls::deliver(tray, band as usize, &buffer[..n]);
-            let said = delivery.answer;
-            let answer = LineAnswer::Call(said);
+            let answer = LineAnswer::Call(delivery.answer);
             let tray = delivery.tray;
             LineRun { answer, tray }
         }
@@ -121,8 +106,7 @@ fn run_withdraw(tray: Tray, band: u64) -> LineRun
     ensures { run_outcome result ≡ line_step tray (call (withdraws band)) }
 {
     let withdrawal = traycalls::withdraw(tray, band as usize);
-    let said = withdrawal.answer;
-    let answer = LineAnswer::Call(said);
+    let answer = LineAnswer::Call(withdrawal.answer);
     let tray = withdrawal.tray;
     LineRun { answer, tray }
 }

@@ -8,26 +8,25 @@
 --   deliver_21, -11, -39, -13, -22, delivered             deliver_of
 --   withdraw_21, withdraw_11, withdraw_23, withdrawn      withdraw_of
 --   verdict_21, verdict_waiting, verdict_yes, verdict_no  verdict_of
-use mathlib.Core.Path.{◌≡◌, refl, sym, ap, ◌∙◌}
+use mathlib.Core.Path.{◌≡◌, refl, ap, ◌∙◌}
 use mathlib.Core.Bool.{Bool, true, false, cond, not}
 use mathlib.Core.List.{List}
 use mathlib.Core.Option.{Option, none, some}
 use Prim.Native.Nat.{ℕ, ◌≤◌, ◌<◌}
 use borrow.Author.Tests.{le-leb, lt-leb, eq-eqb, ne_eqb, not-true, not-false}
-use Rattle.base.specs.Answers.{answer_number}
+use Rattle.std.proofs.Common.{Result, Ok, Err}
+use Rattle.base.specs.declared.Refusal.{Refusal}
+use Rattle.base.specs.Answers.{refusal_number}
 use Rattle.base.specs.Conditions.{outside}
 use Rattle.base.proofs.Tests.{by_test, zero_one}
 use Rattle.automaton.specs.declared.Rule.{Rule}
-use Rattle.base.specs.declared.Answer.{Answer}
-use Rattle.base.specs.declared.Answer.TheVariants as check
 use Rattle.rulecheck.specs.Checking.{rule_number}
 use Rattle.ruleformat.specs.Reader.{no_rule}
-use Rattle.build.specs.declared.BuildAnswer.TheVariants as build
-use Rattle.build.specs.declared.BuildResult.{BuildResult}
-use Rattle.build.specs.mirror.Building.{accepted, refused, build_means, built_of, Outcome as BuiltOutcome, build_outcome, build_of}
+use Rattle.build.specs.declared.Built.{Built}
+use Rattle.build.specs.mirror.Building.{accepted, refused, built_of, Outcome as BuiltOutcome, build_outcome, build_of}
 use Rattle.calls.specs.Calls.{install_number}
 use Rattle.calls.proofs.Conditions.{over, install_number_lem}
-use Rattle.build.specs.declared.BuildAnswer.{BuildAnswer}
+use Rattle.calls.specs.declared.Sizes.{Sizes}
 use Rattle.trays.specs.declared.TrayBoard.{TrayBoard}
 use Rattle.trays.specs.declared.Tray.{Tray}
 use Rattle.trays.specs.Replies as reply
@@ -41,53 +40,52 @@ unfolding fresh
 fresh_by r row c column b empty = rw (row, column, empty)
 
 -- ---- what an installation answers
-module _ (r : Rule) (a : Answer) (checked : answer_number a ≡ rule_number r) where
+module _ (r : Rule) where
   -- the rule does not pass
-  pub unchecked : (number : ℕ) → a ≡ check.Refused number → reply.refused number ≡ install_answer r
+  pub unchecked : (e : Refusal) → some (refusal_number e) ≡ rule_number r → reply.refused (refusal_number e) ≡ install_answer r
   unfolding install_answer
-  unchecked number told =
-      let is : rule_number r ≡ some number = sym checked ∙ ap answer_number told in
-      let number_is : install_number r ≡ some number = install_number_lem r ∙ rw is in
+  unchecked e is =
+      let number_is : install_number r ≡ some (refusal_number e) = install_number_lem r ∙ rw (← is) in
       rw number_is
 
-  module _ (told : a ≡ check.Accepted) (b : BuildResult) (came : build_outcome b ≡ build_of r) where
+  module _ (passes : none ≡ rule_number r) (b : Result Built Refusal) (came : build_outcome b ≡ build_of r) where
     number_is : install_number r ≡ cond (over r) (some 9) none
-    number_is =
-        let passes : rule_number r ≡ none = sym checked ∙ ap answer_number told in
-        install_number_lem r ∙ rw passes
+    number_is = install_number_lem r ∙ rw (← passes)
 
     -- what was built, by whether it has too many sets
-    over-is : over r ≡ true → build_means b.answer ≡ refused 9
+    over-is : over r ≡ true → (build_outcome b).answer ≡ refused 9
     unfolding build_of
     over-is t = ap (λ (o : BuiltOutcome). o.answer) came ∙ rw t
 
-    few_are : over r ≡ false → build_means b.answer ≡ accepted (built_of r).setcount (built_of r).startcount
+    few_are : over r ≡ false → (build_outcome b).answer ≡ accepted (built_of r).setcount (built_of r).startcount
     unfolding build_of
     few_are t = ap (λ (o : BuiltOutcome). o.answer) came ∙ rw t
 
-    -- it has too many sets
-    pub unbuilt : (number : ℕ) → b.answer ≡ build.Refused number → reply.refused number ≡ install_answer r
-    unfolding install_answer
-    unbuilt number answered =
-        let said : build_means b.answer ≡ refused number = ap build_means answered in
-        by_test (over r)
-        (λ t.
-        let is = over-is t in
-        let nine : number ≡ 9 = cc in
-        rw (number_is, t, nine))
-        (λ t. let is = few_are t in zero_one cc)
+  -- it has too many sets
+  pub unbuilt : none ≡ rule_number r → (e : Refusal) → build_outcome (Err e) ≡ build_of r → reply.refused (refusal_number e) ≡ install_answer r
+  unfolding install_answer
+  unbuilt passes e came =
+      by_test (over r)
+      (λ t.
+      let is : refused (refusal_number e) ≡ refused 9 = over-is passes (Err e) came t in
+      let nine : refusal_number e ≡ 9 = cc in
+      rw (number_is passes (Err e) came, t, nine))
+      (λ t.
+      let is : refused (refusal_number e) ≡ accepted (built_of r).setcount (built_of r).startcount = few_are passes (Err e) came t in
+      zero_one cc)
 
-    pub built : (m starts : ℕ) → b.answer ≡ build.Accepted m starts → reply.installed m starts ≡ install_answer r
-    unfolding install_answer
-    built m starts answered =
-        let said : build_means b.answer ≡ accepted m starts = ap build_means answered in
-        by_test (over r)
-        (λ t. let is = over-is t in zero_one cc)
-        (λ t.
-        let is = few_are t in
-        let same-m : m ≡ (built_of r).setcount = cc in
-        let same-starts : starts ≡ (built_of r).startcount = cc in
-        rw (number_is, t, same-m, same-starts))
+  pub built : none ≡ rule_number r → (b : Built) → build_outcome (Ok b) ≡ build_of r → reply.installed b.setcount b.startcount ≡ install_answer r
+  unfolding install_answer
+  built passes b came =
+      by_test (over r)
+      (λ t.
+      let is : accepted b.setcount b.startcount ≡ refused 9 = over-is passes (Ok b) came t in
+      zero_one cc)
+      (λ t.
+      let is : accepted b.setcount b.startcount ≡ accepted (built_of r).setcount (built_of r).startcount = few_are passes (Ok b) came t in
+      let same-m : b.setcount ≡ (built_of r).setcount = cc in
+      let same-starts : b.startcount ≡ (built_of r).startcount = cc in
+      rw (number_is passes (Ok b) came, t, same-m, same-starts))
 
 -- ---- the installations
 -- a refusal's number, and an acceptance's, is that of the rule
@@ -100,22 +98,22 @@ by_acceptance : (n : Option ℕ) (m starts s d : ℕ) → reply.installed s d �
 by_acceptance none m starts s d e = (refl, cc, cc)
 by_acceptance (some y) m starts s d e = zero_one cc
 
-module _ (t s : Tray) (r : Rule) (a : BuildAnswer) (answers : reply.install_means a ≡ install_answer r) where
-  module _ (x : ℕ) (told : a ≡ build.Refused x) where
-    number_refused : install_number r ≡ some x
+module _ (t s : Tray) (r : Rule) where
+  module _ (e : Refusal) (answers : reply.install_means (Err e) ≡ install_answer r) where
+    number_refused : install_number r ≡ some (refusal_number e)
     unfolding install_answer
-    number_refused = by_refusal (install_number r) (built_of r).setcount (built_of r).startcount x (sym (ap reply.install_means told) ∙ answers)
+    number_refused = by_refusal (install_number r) (built_of r).setcount (built_of r).startcount (refusal_number e) answers
 
-    pub install_refused : record { reply = reply.install_means a; state = t } ≡ install_of t r s
-    install_refused = rw (told, number_refused)
+    pub install_refused : record { reply = reply.install_means (Err e); state = t } ≡ install_of t r s
+    install_refused = rw number_refused
 
-  module _ (m starts : ℕ) (told : a ≡ build.Accepted m starts) where
-    number_accepted : (install_number r ≡ none) × (m ≡ (built_of r).setcount) × (starts ≡ (built_of r).startcount)
+  module _ (z : Sizes) (answers : reply.install_means (Ok z) ≡ install_answer r) where
+    number_accepted : (install_number r ≡ none) × (z.sets ≡ (built_of r).setcount) × (z.starts ≡ (built_of r).startcount)
     unfolding install_answer
-    number_accepted = by_acceptance (install_number r) (built_of r).setcount (built_of r).startcount m starts (sym (ap reply.install_means told) ∙ answers)
+    number_accepted = by_acceptance (install_number r) (built_of r).setcount (built_of r).startcount z.sets z.starts answers
 
-    pub install_accepted : record { reply = reply.install_means a; state = s } ≡ install_of t r s
-    install_accepted = rw (told, number_accepted.0, number_accepted.1, number_accepted.2)
+    pub install_accepted : record { reply = reply.install_means (Ok z); state = s } ≡ install_of t r s
+    install_accepted = rw (number_accepted.0, number_accepted.1, number_accepted.2)
 
 -- ---- open
 module _ (t : Tray) (w n : ℕ) (l : Bool) (lacks : l ≡ lacks_rule t) where

@@ -14,14 +14,13 @@
 --   with_sets r          what the installation of the rule r is answered where it is accepted
 --   install_means, call_means, verdict_means  what each case of the code's answers says
 use Rattle.std.proofs.Math.Option.{Option, none, some}
-use Rattle.std.specs.Prelude.{ℕ, length}
+use Rattle.std.specs.Prelude.{Result, Ok, Err, ℕ, length}
+use Rattle.base.specs.declared.Refusal.{Refusal}
+use Rattle.base.specs.Answers.{refusal_number}
 use Rattle.automaton.specs.declared.Rule.{Rule}
 use Rattle.subsets.specs.Sets.{sets_of}
 use Rattle.delegates.specs.Claims.{starts_in}
-use Rattle.build.specs.declared.BuildAnswer.{BuildAnswer}
-use Rattle.build.specs.declared.BuildAnswer.TheVariants as install
-use Rattle.base.specs.declared.Answer.{Answer}
-use Rattle.base.specs.declared.Answer.TheVariants as call
+use Rattle.calls.specs.declared.Sizes.{Sizes}
 use Rattle.trays.specs.declared.TrayVerdict.{TrayVerdict}
 use Rattle.trays.specs.declared.TrayVerdict.TheVariants as verdict
 
@@ -57,16 +56,16 @@ reply_by (some number) a = refused number
 abbrev pub with_sets : Rule → Reply
 with_sets r = installed (length (sets_of r.targets r.n r.k)) (starts_in r).startcount
 
-abbrev pub install_means : BuildAnswer → Reply
-install_means (install.Accepted sets starts) = installed sets starts
-install_means (install.Refused number) = refused number
+abbrev pub install_means : Result Sizes Refusal → Reply
+install_means (Ok sizes) = installed sizes.sets sizes.starts
+install_means (Err refusal) = refused (refusal_number refusal)
 
-abbrev pub call_means : Answer → Reply
-call_means call.Accepted = accepted
-call_means (call.Refused number) = refused number
+abbrev pub call_means : Result (Unit {0}) Refusal → Reply
+call_means (Ok _) = accepted
+call_means (Err refusal) = refused (refusal_number refusal)
 
 abbrev pub verdict_means : TrayVerdict → Judgement
 verdict_means (verdict.Waiting empty) = waiting empty
 verdict_means verdict.Yes = says_yes
 verdict_means verdict.No = says_no
-verdict_means (verdict.Refused number) = refused_with number
+verdict_means (verdict.Refused refusal) = refused_with (refusal_number refusal)

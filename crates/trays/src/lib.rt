@@ -3,8 +3,8 @@
 #![tactic(auto)]
 
 use automaton::Rule;
-use base::Answer;
-use build::BuildAnswer;
+use base::Refusal;
+use calls::Sizes;
 
 // The most events of a row.
 pub const WIDTH: usize = 16;
@@ -47,24 +47,26 @@ pub struct Tray {
     pub board: TrayBoard,
 }
 
-// What the verdict says; it has no count.
-#[derive(Clone, Copy)]
+// So many bands are empty; or yes or no, with no count; or there is no board.
+#[derive(Clone, Copy, Debug, PartialEq, Eq)]
 pub enum TrayVerdict {
     Waiting(u8),
     Yes,
     No,
-    Refused(u8),
+    Refused(Refusal),
 }
 
 // Each call that may change the state answers with the next state beside the answer.
+// Of installing a rule.
 #[derive(Clone, Copy)]
 pub struct InstallResult {
-    pub answer: BuildAnswer,
+    pub answer: Result<Sizes, Refusal>,
     pub tray: Tray,
 }
 
+// Of opening, of delivering and of withdrawing.
 #[derive(Clone, Copy)]
 pub struct CallResult {
-    pub answer: Answer,
+    pub answer: Result<(), Refusal>,
     pub tray: Tray,
 }

@@ -14,10 +14,10 @@ use lib.ListN.{length, take, drop, length-drop}
 use lib.Seq.{drop-drop}
 use Rattle.lines.specs.Splitting.{begins, up_to, past}
 use Rattle.lines.proofs.Splits.{up_take, past_there, past_none}
-use Rattle.fields.specs.declared.Number.{Number}
-use Rattle.fields.specs.declared.Number.TheVariants.{Value}
-use Rattle.fields.specs.declared.Number.TheVariants as number
-use Rattle.fields.specs.Numbers.{parse_number, number_means}
+use Rattle.std.proofs.Common.{Some, None}
+use Rattle.std.proofs.Common as code
+use Rattle.base.specs.Options.{option_of}
+use Rattle.fields.specs.Numbers.{parse_number}
 use Rattle.fields.specs.Bytes.{parse_bytes}
 use Rattle.calltext.proofs.Readings.{to_the_end, begins_long}
 use Rattle.trays.specs.Calls.{opens, withdraws}
@@ -26,12 +26,12 @@ use Rattle.traytext.specs.declared.Line.TheVariants.{Empty, Row, Column, Verdict
 use Rattle.traytext.specs.Lines.{call, malformed, row_word, column_word, open_word, deliver_word, withdraw_word, verdict_word, open_by, withdraw_by, deliver_by, open_fields, deliver_fields, call_in, line_in, line_means, bytes_from, Parsed}
 
 -- ---- the number of a withdrawal
-module _ (field : List ℕ) (x : Number) (said : number_means x ≡ parse_number field) where
-  pub withdraw_value : (p : ℕ) → x ≡ Value p → call (withdraws p) ≡ withdraw_by (parse_number field)
-  withdraw_value p e = ap withdraw_by (sym (ap number_means e) ∙ said)
+module _ (field : List ℕ) (x : code.Option ℕ) (said : option_of x ≡ parse_number field) where
+  pub withdraw_value : (p : ℕ) → x ≡ Some p → call (withdraws p) ≡ withdraw_by (parse_number field)
+  withdraw_value p e = ap withdraw_by (sym (ap option_of e) ∙ said)
 
-  pub withdraw_malformed : x ≡ number.Malformed → malformed ≡ withdraw_by (parse_number field)
-  withdraw_malformed e = ap withdraw_by (sym (ap number_means e) ∙ said)
+  pub withdraw_malformed : x ≡ None → malformed ≡ withdraw_by (parse_number field)
+  withdraw_malformed e = ap withdraw_by (sym (ap option_of e) ∙ said)
 
 -- ---- two fields: `space` is the index of the first space from `from` on
 module _ (w : List ℕ) (from : ℕ) (long : from ≤ length w) (space : ℕ) (found : space ≡ from + length (up_to 32 (drop from w))) where
@@ -60,29 +60,29 @@ module _ (w : List ℕ) (from : ℕ) (long : from ≤ length w) (space : ℕ) (f
         past_there 32 (drop from w) (omega (arith, rest_length))
         ∙ ap (λ (l : List ℕ). some l) (drop-drop (suc m) from w ∙ ap (λ (x : ℕ). drop x w) next)
 
-    module _ (x : Number) (said : number_means x ≡ parse_number (take (space - from) (drop from w))) where
-      says : (o : Option ℕ) → number_means x ≡ o → parse_number (up_to 32 (drop from w)) ≡ o
+    module _ (x : code.Option ℕ) (said : option_of x ≡ parse_number (take (space - from) (drop from w))) where
+      says : (o : Option ℕ) → option_of x ≡ o → parse_number (up_to 32 (drop from w)) ≡ o
       says o e = sym (said ∙ ap parse_number part_is) ∙ e
 
-      pub deliver_value : (p : ℕ) → x ≡ Value p
+      pub deliver_value : (p : ℕ) → x ≡ Some p
           → deliver_by (some p) (parse_bytes (drop (space + 1) w)) ≡ deliver_fields (up_to 32 (drop from w)) (past 32 (drop from w))
-      deliver_value p e = rw (behind_is, says (some p) (ap number_means e))
+      deliver_value p e = rw (behind_is, says (some p) (ap option_of e))
 
-      pub deliver_malformed : x ≡ number.Malformed → malformed ≡ deliver_fields (up_to 32 (drop from w)) (past 32 (drop from w))
-      deliver_malformed e = rw (behind_is, says none (ap number_means e))
+      pub deliver_malformed : x ≡ None → malformed ≡ deliver_fields (up_to 32 (drop from w)) (past 32 (drop from w))
+      deliver_malformed e = rw (behind_is, says none (ap option_of e))
 
-      pub open_first : x ≡ number.Malformed → malformed ≡ open_fields (up_to 32 (drop from w)) (past 32 (drop from w))
-      open_first e = rw (behind_is, says none (ap number_means e))
+      pub open_first : x ≡ None → malformed ≡ open_fields (up_to 32 (drop from w)) (past 32 (drop from w))
+      open_first e = rw (behind_is, says none (ap option_of e))
 
-      module _ (width : ℕ) (e : x ≡ Value width) (y : Number) (then-said : number_means y ≡ parse_number (take (length w - (space + 1)) (drop (space + 1) w))) where
-        both_are : (o : Option ℕ) → number_means y ≡ o → open_fields (up_to 32 (drop from w)) (past 32 (drop from w)) ≡ open_by (some width) o
-        both_are o f = rw (behind_is, says (some width) (ap number_means e)) (ap (open_by (some width)) (ap parse_number (sym (to_the_end w (space + 1))) ∙ sym then-said ∙ f))
+      module _ (width : ℕ) (e : x ≡ Some width) (y : code.Option ℕ) (then-said : option_of y ≡ parse_number (take (length w - (space + 1)) (drop (space + 1) w))) where
+        both_are : (o : Option ℕ) → option_of y ≡ o → open_fields (up_to 32 (drop from w)) (past 32 (drop from w)) ≡ open_by (some width) o
+        both_are o f = rw (behind_is, says (some width) (ap option_of e)) (ap (open_by (some width)) (ap parse_number (sym (to_the_end w (space + 1))) ∙ sym then-said ∙ f))
 
-        pub open_value : (n : ℕ) → y ≡ Value n → call (opens width n) ≡ open_fields (up_to 32 (drop from w)) (past 32 (drop from w))
-        open_value n f = sym (both_are (some n) (ap number_means f))
+        pub open_value : (n : ℕ) → y ≡ Some n → call (opens width n) ≡ open_fields (up_to 32 (drop from w)) (past 32 (drop from w))
+        open_value n f = sym (both_are (some n) (ap option_of f))
 
-        pub open_second : y ≡ number.Malformed → malformed ≡ open_fields (up_to 32 (drop from w)) (past 32 (drop from w))
-        open_second f = sym (both_are none (ap number_means f))
+        pub open_second : y ≡ None → malformed ≡ open_fields (up_to 32 (drop from w)) (past 32 (drop from w))
+        open_second f = sym (both_are none (ap option_of f))
 
 -- ---- the word with which a line begins
 module _ (w : List ℕ) where

@@ -10,9 +10,8 @@ ghost use Rattle.trays.specs.Replies.{installed, waiting, judged, install_means,
 ghost use Rattle.traytext.specs.Lines.{withdraw_by, open_fields, deliver_fields, line_means, bytes_from, Parsed};
 ghost use Rattle.traytext.specs.Answers.{most_answer, is_malformed, reply_text, response_text, answer_means};
 
-use base::Answer;
-use build::BuildAnswer;
-use fields::Number;
+use base::Refusal;
+use calls::Sizes;
 use trays::TrayVerdict;
 
 // A line. The bytes of a row rule begin at index 4, those of a column rule at 7, those of a delivery
@@ -38,15 +37,13 @@ fn opening(line: &[u8]) -> Line
     if line.len() <= space {
         return Line::Malformed;
     }
-    let first = fields::read_number(&line[5..space]);
-    let Number::Value(width) = first else {
+    let Some(width) = fields::read_number(&line[5..space]) else {
         return Line::Malformed;
     };
     let from = space + 1;
-    let second = fields::read_number(&line[from..]);
-    match second {
-        Number::Value(bands) => Line::Open(width, bands),
-        Number::Malformed => Line::Malformed,
+    match fields::read_number(&line[from..]) {
+        Some(bands) => Line::Open(width, bands),
+        None => Line::Malformed,
     }
 }
 
@@ -59,20 +56,18 @@ fn delivery(line: &[u8]) -> Line
     if line.len() <= space {
         return Line::Malformed;
     }
-    let number = fields::read_number(&line[8..space]);
-    match number {
-        Number::Value(band) => Line::Deliver(band, space + 1),
-        Number::Malformed => Line::Malformed,
+    match fields::read_number(&line[8..space]) {
+        Some(band) => Line::Deliver(band, space + 1),
+        None => Line::Malformed,
     }
 }
 
 fn withdrawal(field: &[u8]) -> Line
     ensures { (bytes_from result ≡ 0) × ((w : List ℕ) → line_means w result ≡ withdraw_by (parse_number field.now)) }
 {
-    let number = fields::read_number(field);
-    match number {
-        Number::Value(band) => Line::Withdraw(band),
-        Number::Malformed => Line::Malformed,
+    match fields::read_number(field) {
+        Some(band) => Line::Withdraw(band),
+        None => Line::Malformed,
     }
 }
 
@@ -112,8 +107,8 @@ pub fn parse(line: &[u8]) -> Line
 #[derive(Clone, Copy)]
 pub enum LineAnswer {
     Began,
-    Install(BuildAnswer),
-    Call(Answer),
+    Install(Result<Sizes, Refusal>),
+    Call(Result<(), Refusal>),
     Verdict(TrayVerdict),
     Malformed,
 }
@@ -140,23 +135,23 @@ fn put_waiting(out: &mut [u8], empty: u8) -> usize
 }
 
 // What a call is answered, a function for each type of answer.
-fn put_install(out: &mut [u8], answer: BuildAnswer) -> usize
+fn put_install(out: &mut [u8], answer: Result<Sizes, Refusal>) -> usize
     requires { most_answer ≤ length out.old }
     ensures { Wrote out.old 0 (reply_text (install_means answer)) out.new result }
 {
     match answer {
-        BuildAnswer::Accepted(sets, starts) => put_installed(out, sets, starts),
-        BuildAnswer::Refused(number) => answers::put_refused(out, 0, number),
+        Ok(sizes) => put_installed(out, sizes.sets, sizes.starts),
+        Err(refusal) => answers::put_refused(out, 0, refusal.number()),
     }
 }
 
-fn put_call(out: &mut [u8], answer: Answer) -> usize
+fn put_call(out: &mut [u8], answer: Result<(), Refusal>) -> usize
     requires { most_answer ≤ length out.old }
     ensures { Wrote out.old 0 (reply_text (call_means answer)) out.new result }
 {
     match answer {
-        Answer::Accepted => text::put_bytes(out, 0, b"accepted\n"),
-        Answer::Refused(number) => answers::put_refused(out, 0, number),
+        Ok(()) => text::put_bytes(out, 0, b"accepted\n"),
+        Err(refusal) => answers::put_refused(out, 0, refusal.number()),
     }
 }
 
@@ -168,7 +163,7 @@ fn put_verdict(out: &mut [u8], answer: TrayVerdict) -> usize
         TrayVerdict::Waiting(empty) => put_waiting(out, empty),
         TrayVerdict::Yes => text::put_bytes(out, 0, b"yes\n"),
         TrayVerdict::No => text::put_bytes(out, 0, b"no\n"),
-        TrayVerdict::Refused(number) => answers::put_refused(out, 0, number),
+        TrayVerdict::Refused(refusal) => answers::put_refused(out, 0, refusal.number()),
     }
 }
 
@@ -190,11 +185,5 @@ pub fn put_answer(out: &mut [u8], answer: LineAnswer) -> usize
 pub fn is_malformed(answer: LineAnswer) -> bool
     ensures { result ≡ is_malformed (answer_means answer) }
 {
-    match answer {
-        LineAnswer::Began => false,
-        LineAnswer::Install(_) => false,
-        LineAnswer::Call(_) => false,
-        LineAnswer::Verdict(_) => false,
-        LineAnswer::Malformed => true,
-    }
+    matches!(answer, LineAnswer::Malformed)
 }

@@ -16,10 +16,8 @@ pub fn set_after(targets: &[u32; limits::TARGETS], set: u32, text: &[u8]) -> u32
     ensures { result ≡ after targets.now set text.now }
 {
     let mut reached = set;
-    let mut i: usize = 0;
-    while i < text.len() {
-        reached = automaton::successor(targets, reached, text[i]);
-        i += 1;
+    for byte in text {
+        reached = automaton::successor(targets, reached, *byte);
     }
     reached
 }
@@ -29,16 +27,14 @@ fn band_passes(rule: Rule, cells: &[u8], from: usize, rows: usize, width: usize)
     requires { from + rows * width ≤ length cells.now }
     ensures { result ≡ rows_pass rule (rows_of width rows (drop from cells.now)) }
 {
-    let mut left = rows;
     let mut at = from;
-    while left != 0 {
+    for _ in 0..rows {
         let end = at + width;
         let set = set_after(&rule.targets, rule.initials, &cells[at..end]);
         if !masks::meets(set, rule.finals) {
             return false;
         }
         at = end;
-        left -= 1;
     }
     true
 }
@@ -54,13 +50,11 @@ fn rows_pass(
     requires { (length cells.now ≡ tray_cells) × (width ≤ most_width) × (bands ≤ most_bands) }
     ensures { result ≡ rows_pass rule (rows_up_to (band_in width rows.now cells.now) bands) }
 {
-    let mut p: usize = 0;
-    while p < bands {
+    for p in 0..bands {
         let count = traybands::row_count(rows, p);
         if !band_passes(rule, cells, p * trays::BAND, count, width) {
             return false;
         }
-        p += 1;
     }
     true
 }
@@ -79,12 +73,10 @@ fn column_after(
     ensures { result ≡ after targets.now set (column_of column (rows_of width rows (drop from cells.now))) }
 {
     let mut reached = set;
-    let mut left = rows;
     let mut at = from;
-    while left != 0 {
+    for _ in 0..rows {
         reached = automaton::successor(targets, reached, cells[at + column]);
         at += width;
-        left -= 1;
     }
     reached
 }
@@ -103,8 +95,7 @@ fn column_set(
     ensures { result ≡ after targets.now initials (column_of column (rows_up_to (band_in width rows.now cells.now) bands)) }
 {
     let mut reached = initials;
-    let mut p: usize = 0;
-    while p < bands {
+    for p in 0..bands {
         let count = traybands::row_count(rows, p);
         reached = column_after(
             targets,
@@ -115,7 +106,6 @@ fn column_set(
             width,
             column,
         );
-        p += 1;
     }
     reached
 }
@@ -131,13 +121,11 @@ fn columns_pass(
     requires { (length cells.now ≡ tray_cells) × (width ≤ most_width) × (bands ≤ most_bands) }
     ensures { result ≡ columns_pass rule (rows_up_to (band_in width rows.now cells.now) bands) width }
 {
-    let mut c: usize = 0;
-    while c < width {
+    for c in 0..width {
         let set = column_set(&rule.targets, rule.initials, cells, rows, width, bands, c);
         if !masks::meets(set, rule.finals) {
             return false;
         }
-        c += 1;
     }
     true
 }

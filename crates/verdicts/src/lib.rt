@@ -5,7 +5,9 @@ ghost use Rattle.std.specs.Prelude.{◌≡◌};
 ghost use Rattle.calls.specs.Replies.{verdict_means, report_means};
 ghost use Rattle.calls.specs.Calls.{per_byte, alone, report_by};
 ghost use Rattle.calls.specs.mirror.Steps.{verdict_of};
+ghost use Rattle.verdicts.specs.Shown.{kind_of, number_of};
 
+use base::Refusal;
 use calls::{Judge, Report, Verdict};
 
 // Waiting with the number of empty places; or yes or no with the count.
@@ -14,7 +16,7 @@ pub fn find_verdict(judge: Judge) -> Verdict
 {
     let board = judge.board;
     if board.places == 0 {
-        return Verdict::Refused(21);
+        return Verdict::Refused(Refusal::NoBoard);
     }
     let empty = board::empty_places(&board.filled, board.places);
     if empty != 0 {
@@ -71,5 +73,29 @@ pub fn report_on(verdict: Verdict, bytes: u64) -> Report
         Verdict::Yes(count) => report_by_bytes(verdict, count, bytes),
         Verdict::No(count) => report_by_bytes(verdict, count, bytes),
         Verdict::Refused(_) => report_alone(verdict),
+    }
+}
+
+// Which of the four a verdict is, as C is told.
+pub fn kind_of(verdict: Verdict) -> u8
+    ensures { result ≡ kind_of (verdict_means verdict) }
+{
+    match verdict {
+        Verdict::Refused(_) => 0,
+        Verdict::Waiting(_) => 1,
+        Verdict::Yes(_) => 2,
+        Verdict::No(_) => 3,
+    }
+}
+
+// The number that a verdict has.
+pub fn number_of(verdict: Verdict) -> u64
+    ensures { result ≡ number_of (verdict_means verdict) }
+{
+    match verdict {
+        Verdict::Refused(refusal) => refusal.number() as u64,
+        Verdict::Waiting(empty) => empty as u64,
+        Verdict::Yes(count) => count,
+        Verdict::No(count) => count,
     }
 }

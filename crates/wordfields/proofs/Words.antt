@@ -12,9 +12,7 @@ use Rattle.base.proofs.Lists.{is_list_from}
 use Rattle.base.proofs.Options.{none-some}
 use Rattle.base.proofs.Tests.{by_test}
 use Rattle.text.proofs.Fitting.{taken}
-use Rattle.fields.specs.declared.Bytes.{Bytes}
-use Rattle.fields.specs.declared.Bytes.TheVariants.{Put, Malformed}
-use Rattle.fields.specs.Bytes.{parse_bytes, bytes_means, TookOf, Took}
+use Rattle.fields.specs.Bytes.{parse_bytes, TookOf, Took}
 use Rattle.forms.proofs.Filling.{Filled}
 use Rattle.wordfields.specs.Words.{word_at, words_of, words_by, parse_words}
 
@@ -35,11 +33,11 @@ all_words len i b words n h filled =
 
 -- ---- what was read
 -- of the bytes b, if there are any, as many as fit stand in the buffer
-module _ (most : ℕ) (before after : List ℕ) (r : Bytes) (room : length before ≡ 2 * most + 1) where
-  odd_by : (o : Option (List ℕ)) → TookOf o before (bytes_means r) after → (n : ℕ) → r ≡ Put n → n % 2 ≡ 1 → none ≡ words_by most o
+module _ (most : ℕ) (before after : List ℕ) (r : Option ℕ) (room : length before ≡ 2 * most + 1) where
+  odd_by : (o : Option (List ℕ)) → TookOf o before r after → (n : ℕ) → r ≡ some n → n % 2 ≡ 1 → none ≡ words_by most o
   odd_by none took n e odd = refl
   odd_by (some b) took n e odd =
-      let q : took.0 ≡ n = let z : some took.0 ≡ some n = sym took.1 ∙ ap bytes_means e in cc in
+      let q : took.0 ≡ n = let z : some took.0 ≡ some n = sym took.1 ∙ e in cc in
       let size : n ≡ min (length before) (length b) = omega (arith, q, took.2.ends, length-take (length before) b) in
       by_test (eqb (length b % 2) 0)
       (λ t. rw (t, lt-leb (length b) (2 * most) (omega (arith, eqb-true (length b % 2) 0 t))))
@@ -50,9 +48,9 @@ module _ (most : ℕ) (before after : List ℕ) (r : Bytes) (room : length befor
     is : take n after ≡ b
     even : n ≡ length b
 
-  whole_by : (b : List ℕ) → TookOf (some b) before (bytes_means r) after → (n : ℕ) → r ≡ Put n → (n % 2 ≡ 1 → ⊥) → Whole b n
+  whole_by : (b : List ℕ) → TookOf (some b) before r after → (n : ℕ) → r ≡ some n → (n % 2 ≡ 1 → ⊥) → Whole b n
   whole_by b took n e even =
-      let q : took.0 ≡ n = let z : some took.0 ≡ some n = sym took.1 ∙ ap bytes_means e in cc in
+      let q : took.0 ≡ n = let z : some took.0 ≡ some n = sym took.1 ∙ e in cc in
       let size : n ≡ min (length before) (length b) = omega (arith, q, took.2.ends, length-take (length before) b) in
       let few : n ≤ 2 * most = by_test (eqb n (2 * most + 1))
       (λ t. let z = eqb-true n (2 * most + 1) t in absurd (even (omega arith)))
@@ -64,33 +62,33 @@ module _ (most : ℕ) (before after : List ℕ) (r : Bytes) (room : length befor
         even = same;
       }
 
-  good_by : (o : Option (List ℕ)) → TookOf o before (bytes_means r) after → (n : ℕ) → r ≡ Put n → (n % 2 ≡ 1 → ⊥) → (words : List ℕ)
+  good_by : (o : Option (List ℕ)) → TookOf o before r after → (n : ℕ) → r ≡ some n → (n % 2 ≡ 1 → ⊥) → (words : List ℕ)
       → words ≡ words_of most (take n after) → some words ≡ words_by most o
-  good_by none took n e even words is = none-some took.0 (ap bytes_means e)
+  good_by none took n e even words is = none-some took.0 e
   good_by (some b) took n e even words is =
       let w = whole_by b took n e even in
       rw (eq-eqb (length b % 2) 0 (omega (arith, w.even)), le-leb (length b) (2 * most) (omega (arith, w.even, w.few)))
       (ap (λ (x : List ℕ). some x) (is ∙ ap (words_of most) w.is))
 
-  bounds_by : (o : Option (List ℕ)) → TookOf o before (bytes_means r) after → (n : ℕ) → r ≡ Put n → (n % 2 ≡ 1 → ⊥) → n ≤ 2 * most
-  bounds_by none took n e even = none-some took.0 (ap bytes_means e)
+  bounds_by : (o : Option (List ℕ)) → TookOf o before r after → (n : ℕ) → r ≡ some n → (n % 2 ≡ 1 → ⊥) → n ≤ 2 * most
+  bounds_by none took n e even = none-some took.0 e
   bounds_by (some b) took n e even = (whole_by b took n e even).few
 
-  none_by : (o : Option (List ℕ)) → TookOf o before (bytes_means r) after → r ≡ Malformed → none ≡ words_by most o
+  none_by : (o : Option (List ℕ)) → TookOf o before r after → r ≡ none → none ≡ words_by most o
   none_by none took e = refl
-  none_by (some b) took e = none-some (ap bytes_means e) took.1
+  none_by (some b) took e = none-some e took.1
 
-module _ (most : ℕ) (w before after : List ℕ) (r : Bytes) (took : Took w before r after) (room : length before ≡ 2 * most + 1) where
-  pub not_bytes : r ≡ Malformed → none ≡ parse_words most w
+module _ (most : ℕ) (w before after : List ℕ) (r : Option ℕ) (took : Took w before r after) (room : length before ≡ 2 * most + 1) where
+  pub not_bytes : r ≡ none → none ≡ parse_words most w
   not_bytes e = none_by most before after r room (parse_bytes w) took e
 
-  pub odd_bytes : (n : ℕ) → r ≡ Put n → n % 2 ≡ 1 → none ≡ parse_words most w
+  pub odd_bytes : (n : ℕ) → r ≡ some n → n % 2 ≡ 1 → none ≡ parse_words most w
   odd_bytes n e odd = odd_by most before after r room (parse_bytes w) took n e odd
 
-  pub few_bytes : (n : ℕ) → r ≡ Put n → (n % 2 ≡ 1 → ⊥) → n ≤ 2 * most
+  pub few_bytes : (n : ℕ) → r ≡ some n → (n % 2 ≡ 1 → ⊥) → n ≤ 2 * most
   few_bytes n e even = bounds_by most before after r room (parse_bytes w) took n e even
 
-  pub good_bytes : (n : ℕ) → r ≡ Put n → (n % 2 ≡ 1 → ⊥) → (words : List ℕ) → words ≡ words_of most (take n after) → some words ≡ parse_words most w
+  pub good_bytes : (n : ℕ) → r ≡ some n → (n % 2 ≡ 1 → ⊥) → (words : List ℕ) → words ≡ words_of most (take n after) → some words ≡ parse_words most w
   good_bytes n e even words is = good_by most before after r room (parse_bytes w) took n e even words is
 
 -- ---- so many bytes of the buffer

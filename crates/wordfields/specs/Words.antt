@@ -5,7 +5,7 @@
 --   words_of most b     `most` numbers
 --   parse_words most w  what the field w says: at most `most` numbers; none where it is no field of
 --                      bytes, an odd number of them or more
---   words_mean known words  what the code's result says
+--   words_mean known words  whether a field said numbers, and which
 use Rattle.std.specs.Prelude.{Bool, cond, ◌&&◌, List, ℕ, ◌+◌, ◌*◌, ◌%◌, eqb, leb, length, get_or}
 use Rattle.std.proofs.Math.Option.{Option, none, some}
 use Rattle.base.specs.Lists.{list_from}
@@ -24,6 +24,5 @@ words_by most (some b) = cond (eqb (length b % 2) 0 && leb (length b) (2 * most)
 abbrev pub parse_words : ℕ → List ℕ → Option (List ℕ)
 parse_words most w = words_by most (parse_bytes w)
 
--- whether a field said numbers, and which
 abbrev pub words_mean : Bool → List ℕ → Option (List ℕ)
 words_mean known words = cond known (some words) none

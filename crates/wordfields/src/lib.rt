@@ -4,23 +4,8 @@
 
 ghost use Rattle.std.specs.Prelude.{◌≡◌, ◌+◌, ◌*◌, ◌%◌, ◌≤◌, length, replicate};
 ghost use Rattle.limits.specs.Limits.{most_sets, table_cells};
+ghost use Rattle.base.specs.Options.{option_of};
 ghost use Rattle.wordfields.specs.Words.{words_of, parse_words, words_mean};
-
-use fields::Bytes;
-
-// A number for each set, or that the field says none.
-#[derive(Clone, Copy)]
-pub struct SetWords {
-    pub known: bool,
-    pub words: [u16; limits::SETS],
-}
-
-// A number for each cell.
-#[derive(Clone, Copy)]
-pub struct CellWords {
-    pub known: bool,
-    pub words: [u16; limits::CELLS],
-}
 
 fn pair(low: u8, high: u8) -> u16
     ensures { result ≡ low + 256 * high }
@@ -47,8 +32,7 @@ fn read_words(field: &[u8], bytes: &mut [u8], words: &mut [u16]) -> bool
     requires { (length bytes.old ≡ 2 * length words.old + 1) × (words.old ≡ replicate (length words.old) 0) }
     ensures { words_mean result words.new ≡ parse_words (length words.old) field.now }
 {
-    let read = fields::read_bytes(field, bytes);
-    let Bytes::Put(n) = read else {
+    let Some(n) = fields::read_bytes(field, bytes) else {
         return false;
     };
     if n % 2 == 1 {
@@ -58,22 +42,26 @@ fn read_words(field: &[u8], bytes: &mut [u8], words: &mut [u16]) -> bool
     true
 }
 
-// A field of at most 512 numbers.
-pub fn read_sets(field: &[u8]) -> SetWords
-    ensures { words_mean result.known result.words ≡ parse_words most_sets field.now }
+// A field of at most 512 numbers, one for each set.
+pub fn read_sets(field: &[u8]) -> Option<[u16; limits::SETS]>
+    ensures { option_of result ≡ parse_words most_sets field.now }
 {
     let mut bytes = [0u8; 2 * limits::SETS + 1];
     let mut words = [0u16; limits::SETS];
-    let known = read_words(field, &mut bytes, &mut words);
-    SetWords { known, words }
+    if !read_words(field, &mut bytes, &mut words) {
+        return None;
+    }
+    Some(words)
 }
 
-// A field of at most 8,192 numbers.
-pub fn read_cells(field: &[u8]) -> CellWords
-    ensures { words_mean result.known result.words ≡ parse_words table_cells field.now }
+// A field of at most 8,192 numbers, one for each cell.
+pub fn read_cells(field: &[u8]) -> Option<[u16; limits::CELLS]>
+    ensures { option_of result ≡ parse_words table_cells field.now }
 {
     let mut bytes = [0u8; 2 * limits::CELLS + 1];
     let mut words = [0u16; limits::CELLS];
-    let known = read_words(field, &mut bytes, &mut words);
-    CellWords { known, words }
+    if !read_words(field, &mut bytes, &mut words) {
+        return None;
+    }
+    Some(words)
 }

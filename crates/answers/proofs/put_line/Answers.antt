@@ -6,39 +6,27 @@ use Rattle.answers.proofs.put_line.Goals as goal
 pub put_bytes-end-requires : goal.put_bytes-end-requires
 put_bytes-end-requires c = word_room c.args.at c.args.word.now c.args.numbers.now c.requires
 
-pub loop-i-init : goal.loop-i-init
-loop-i-init c = begun _ _ _ c.put_bytes-end.ensures c.requires
+pub loop-number-init : goal.loop-number-init
+loop-number-init c = begun _ _ _ c.put_bytes-end.ensures c.requires
 
 pub put_byte-end-requires : goal.put_byte-end-requires
-put_byte-end-requires c = byte_room _ _ _ c.loop-i.invariant
+put_byte-end-requires c = byte_room _ _ _ c.loop-number.invariant
 
 pub put_decimal-end-requires : goal.put_decimal-end-requires
 put_decimal-end-requires c =
     let w = c.put_byte-end in
-    room_for _ _ _ c.loop-i.invariant c.loop-i-test.true w.ensures
+    room_for _ _ _ c.loop-number.invariant c.loop-number-test.true w.ensures
 
-pub loop-i-preserved : goal.loop-i-preserved
-loop-i-preserved c =
-    one_more _ _ _ c.loop-i.invariant c.loop-i-test.true c.put_byte-end.ensures c.put_decimal-end.ensures
+pub loop-number-preserved : goal.loop-number-preserved
+loop-number-preserved c =
+    one_more _ _ _ c.loop-number.invariant c.loop-number-test.true c.put_byte-end.ensures c.put_decimal-end.ensures
 
 pub put_byte-requires : goal.put_byte-requires
-put_byte-requires c = byte_room _ _ _ c.loop-i.invariant
+put_byte-requires c = byte_room _ _ _ c.loop-number.invariant
 
 pub returns : goal.returns
 returns c =
-    ended _ _ _ c.put_bytes-end.ensures c.requires c.loop-i.invariant c.loop-i-test.false c.put_byte.ensures
-
-pub offset_bounds-numbers-i : goal.offset_bounds-numbers-i
-offset_bounds-numbers-i = (search rules)
-
-pub bounds-numbers-i : goal.bounds-numbers-i
-bounds-numbers-i = (search rules)
-
-pub overflow_add-i : goal.overflow_add-i
-overflow_add-i = (search rules)
-
-pub loop-i-smaller : goal.loop-i-smaller
-loop-i-smaller = (search rules)
+    ended _ _ _ c.put_bytes-end.ensures c.requires c.loop-number.invariant c.loop-number-test.false c.put_byte.ensures
 
 pub shape_of-out : goal.shape_of-out
 shape_of-out = (search rules)

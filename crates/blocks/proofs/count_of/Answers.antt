@@ -10,13 +10,13 @@ use Rattle.lanes.proofs.Offsets.{hop_low, hop_stays}
 use Rattle.blocks.proofs.count_of.Goals as goal
 
 pub loop-i-init : goal.loop-i-init
-loop-i-init c = (omega arith, c.requires.1, omega arith)
+loop-i-init c = (c.requires.1, omega arith)
 
 pub overflow_add-symbol : goal.overflow_add-symbol
-overflow_add-symbol c = omega (arith, c.loop-i.invariant.1)
+overflow_add-symbol c = omega (arith, c.loop-i.invariant.0)
 
 pub bounds-t-symbol : goal.bounds-t-symbol
-bounds-t-symbol c = omega (arith, c.loop-i.invariant.1, c.requires.0.size)
+bounds-t-symbol c = omega (arith, c.loop-i.invariant.0, c.requires.0.size)
 
 pub returns-then-row-ge-EMPTY_ROW : goal.returns-then-row-ge-EMPTY_ROW
 returns-then-row-ge-EMPTY_ROW c =
@@ -24,7 +24,7 @@ returns-then-row-ge-EMPTY_ROW c =
     let t = c.args.t.now in
     let w = c.args.part.now in
     let off : 8192 ≤ hop_of t l.row (get_or w l.i 0) = rw c.offset-row.ensures at c.if-row-ge-EMPTY_ROW.true in
-    omega (arith, l.invariant.2, count_off (hop_of t) 8192 (hop_low t c.requires.0) (hop_stays t c.requires.0) l.row l.i w (omega arith) off)
+    omega (arith, l.invariant.1, count_off (hop_of t) 8192 (hop_low t c.requires.0) (hop_stays t c.requires.0) l.row l.i w (omega arith) off)
 
 pub loop-i-preserved : goal.loop-i-preserved
 loop-i-preserved c =
@@ -35,9 +35,8 @@ loop-i-preserved c =
     let step : row ≡ hop_of t l.row (get_or w l.i 0) = c.offset-row.ensures in
     let on : hop_of t l.row (get_or w l.i 0) < 8192 = rw step at c.if-row-ge-EMPTY_ROW.false in
     let left = ap (row_count t (drop (l.i + 1) w)) step in (
-      omega arith,
       rw step (hop_low t c.requires.0 l.row (get_or w l.i 0)),
-      omega (arith, l.invariant.2, count_on (hop_of t) 8192 l.row l.i w (omega arith) on),
+      omega (arith, l.invariant.1, count_on (hop_of t) 8192 l.row l.i w (omega arith) on),
     )
 
 pub returns : goal.returns
@@ -45,4 +44,4 @@ returns c =
     let l = c.loop-i in
     let t = c.args.t.now in
     let w = c.args.part.now in
-    omega (arith, l.invariant.2, count_left (hop_of t) 8192 l.row l.i w c.loop-i-test.false)
+    omega (arith, l.invariant.1, count_left (hop_of t) 8192 l.row l.i w c.loop-i-test.false)

@@ -7,7 +7,7 @@ use Rattle.base.proofs.Lists.{is_list_from, cell_stored}
 use Rattle.blocks.proofs.pick.Goals as goal
 
 pub loop-j-init : goal.loop-j-init
-loop-j-init c = (omega arith, length-replicate {A = ℕ} 32 0, λ b h. absurd (omega arith))
+loop-j-init c = (length-replicate {A = ℕ} 32 0, λ b h. absurd (omega arith))
 
 pub offset_bounds-list-k : goal.offset_bounds-list-k
 offset_bounds-list-k c = omega (arith, c.requires c.loop-j.j c.loop-j-test.true)
@@ -21,9 +21,8 @@ loop-j-preserved c =
     let of = c.args.of.now in
     let list = c.args.list.now in
     let v = get_or list (get_or of l.j 0) 0 in (
-      omega arith,
-      length-set l.out l.j v ∙ l.invariant.1,
-      cell_stored l.out (λ b. get_or list (get_or of b 0) 0) l.j v (omega (arith, l.invariant.1)) refl l.invariant.2,
+      length-set l.out l.j v ∙ l.invariant.0,
+      cell_stored l.out (λ b. get_or list (get_or of b 0) 0) l.j v (omega (arith, l.invariant.0)) refl l.invariant.1,
     )
 
 pub returns : goal.returns
@@ -31,4 +30,4 @@ returns c =
     let l = c.loop-j in
     let of = c.args.of.now in
     let list = c.args.list.now in
-    is_list_from l.out 32 (λ b. get_or list (get_or of b 0) 0) l.invariant.1 (λ b h. l.invariant.2 b (omega arith))
+    is_list_from l.out 32 (λ b. get_or list (get_or of b 0) 0) l.invariant.0 (λ b h. l.invariant.1 b (omega arith))

@@ -8,7 +8,7 @@ use Rattle.blocks.proofs.Parts.{walked_is}
 use Rattle.blocks.proofs.then.Goals as goal
 
 pub loop-j-init : goal.loop-j-init
-loop-j-init c = (omega arith, length-replicate {A = ℕ} 32 0, λ b h. absurd (omega arith))
+loop-j-init c = (length-replicate {A = ℕ} 32 0, λ b h. absurd (omega arith))
 
 pub overflow_add-counts : goal.overflow_add-counts
 overflow_add-counts c = omega (arith, c.requires.0.counts c.loop-j.j, c.requires.1.counts c.loop-j.j)
@@ -19,9 +19,8 @@ loop-j-preserved c =
     let x = c.args.x.counts in
     let y = c.args.y.counts in
     let v = get_or x l.j 0 + get_or y l.j 0 in (
-      omega arith,
-      length-set l.counts l.j v ∙ l.invariant.1,
-      cell_stored l.counts (λ b. get_or x b 0 + get_or y b 0) l.j v (omega (arith, l.invariant.1)) refl l.invariant.2,
+      length-set l.counts l.j v ∙ l.invariant.0,
+      cell_stored l.counts (λ b. get_or x b 0 + get_or y b 0) l.j v (omega (arith, l.invariant.0)) refl l.invariant.1,
     )
 
 pub returns : goal.returns
@@ -29,4 +28,4 @@ returns c =
     let l = c.loop-j in
     let x = c.args.x.counts in
     let y = c.args.y.counts in
-    walked_is refl (is_list_from l.counts 32 (λ b. get_or x b 0 + get_or y b 0) l.invariant.1 (λ b h. l.invariant.2 b (omega arith))) refl
+    walked_is refl (is_list_from l.counts 32 (λ b. get_or x b 0 + get_or y b 0) l.invariant.0 (λ b h. l.invariant.1 b (omega arith))) refl

@@ -1,11 +1,8 @@
 -- `then` meets its contract. Assumes nothing.
 use mathlib.Core.Path.{◌≡◌}
-use Prim.Native.Nat.{ℕ, ◌+◌, ◌-◌, ◌≤◌, ◌<◌}
+use Prim.Native.Nat.{ℕ, ◌+◌, ◌<◌}
 use lib.ListN.{length, get_or}
 use Rattle.blocks.proofs.then.Given as goal
 
 abbrev pub invariant-loop-j : goal.invariant-loop-j
-invariant-loop-j l = (l.j ≤ 32) × (length l.counts ≡ 32) × ((b : ℕ) → b < l.j → get_or l.counts b 0 ≡ get_or l.first b 0 + get_or l.second b 0)
-
-abbrev pub decreases-loop-j : goal.decreases-loop-j
-decreases-loop-j l = 32 - l.j
+invariant-loop-j l = (length l.counts ≡ 32) × ((b : ℕ) → b < l.j → get_or l.counts b 0 ≡ get_or l.first b 0 + get_or l.second b 0)

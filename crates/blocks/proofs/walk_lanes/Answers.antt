@@ -35,7 +35,7 @@ loop-from-preserved c =
     let ends : w.new.lane ≡ rows_end c.args.t.now c.args.part.now (take 8 (drop l.from l.lane)) 8 = rw eight at w.ensures.lane_after in
     rw eight
     (walking_more c.args.t.now c.args.part.now c.args.lane.now l.lane l.looked l.from l.invariant
-    (omega (arith, l.invariant.eights, c.requires.1.most)) w.result w.new.lane c.greater-looked.result n ends c.greater-looked.ensures)
+    (omega (arith, l.invariant.eights, c.requires.1.most)) w.result w.new.lane c.max-looked.result n ends c.max-looked.ensures)
 
 pub shape_of-lane : goal.shape_of-lane
 shape_of-lane c = c.loop-from.invariant.size ∙ sym c.requires.1.size

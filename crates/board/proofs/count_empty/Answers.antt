@@ -14,10 +14,10 @@ use Rattle.board.proofs.count_empty.Goals as goal
 
 pub loop-p-init : goal.loop-p-init
 unfolding total
-loop-p-init c = (omega arith, omega arith, refl)
+loop-p-init g c = (omega arith, refl)
 
 pub loop-p-preserved : goal.loop-p-preserved
-loop-p-preserved c =
+loop-p-preserved g c =
     let x = c.loop-p in
     let a = c.args in
     let mark : ℕ = get_or a.filled.now x.p 0 in
@@ -26,15 +26,14 @@ loop-p-preserved c =
       | then-filled-p-eq0 w ↦ w.empty-is ∙ rw (eq-eqb mark 0 w.if-filled-p-eq0.true)
       | else-filled-p-eq0 w ↦ w.empty-is ∙ rw (ne_eqb mark 0 w.if-filled-p-eq0.false) (omega arith)
     ]) in (
-      omega arith,
       omega (arith, counted, one_most (eqb mark 0)),
       counted
-          ∙ ap (λ (y : ℕ). y + cond (eqb mark 0) 1 0) x.invariant.2
+          ∙ ap (λ (y : ℕ). y + cond (eqb mark 0) 1 0) x.invariant.1
           ∙ sym (total_more (λ i. cond (eqb (get_or a.filled.now i 0) 0) 1 0) x.p),
     )
 
 pub returns : goal.returns
-returns c =
+returns g c =
     let x = c.loop-p in
     let e : x.p ≡ c.args.n = omega arith in
-    rw (← e) x.invariant.2
+    rw (← e) x.invariant.1

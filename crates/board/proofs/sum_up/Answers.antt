@@ -10,7 +10,7 @@ use Rattle.board.proofs.sum_up.Goals as goal
 
 pub loop-p-init : goal.loop-p-init
 unfolding total
-loop-p-init c = (omega arith, omega arith, refl)
+loop-p-init c = (omega arith, refl)
 
 pub loop-p-preserved : goal.loop-p-preserved
 loop-p-preserved c =
@@ -18,12 +18,11 @@ loop-p-preserved c =
     let a = c.args in
     let f : ℕ → ℕ = λ i. get_or a.numbers.now i 0 in (
       omega arith,
-      omega arith,
-      ap₂ (λ (y z : ℕ). y + z) x.invariant.2 c.wide-sum.ensures.0 ∙ sym (total_more f x.p),
+      ap₂ (λ (y z : ℕ). y + z) x.invariant.1 c.wide-sum.ensures.0 ∙ sym (total_more f x.p),
     )
 
 pub returns : goal.returns
 returns c =
     let x = c.loop-p in
     let e : x.p ≡ c.args.n = omega arith in
-    rw (← e) x.invariant.2
+    rw (← e) x.invariant.1

@@ -3,31 +3,18 @@ use native.Mathlib.Omega.{arith}
 use Rattle.build.proofs.Numbered.{at_most_512, whole, too_many_lem}
 use Rattle.build.proofs.build_rule.Goals as goal
 
-pub overflow_cast-built : goal.overflow_cast-built
-overflow_cast-built c =
-    let t = c.number_sets-table in
+pub overflow_cast-result : goal.overflow_cast-result
+overflow_cast-result c =
+    let t = c.number_sets in
     let r = c.args.rule in
-    omega (arith, at_most_512 r.targets r.n r.k t.result t.ensures c.in-Whole.count c.in-Whole.is)
+    omega (arith, at_most_512 r.targets r.n r.k t.result t.ensures c.in-Some.table c.in-Some.is)
 
-pub overflow_cast-answer : goal.overflow_cast-answer
-overflow_cast-answer c =
-    let t = c.number_sets-table in
-    let r = c.args.rule in
-    omega (arith, at_most_512 r.targets r.n r.k t.result t.ensures c.in-Whole.count c.in-Whole.is)
-
-pub returns-in-Whole : goal.returns-in-Whole
-returns-in-Whole c =
-    let t = c.number_sets-table in
-    let r = c.args.rule in
+pub returns : goal.returns
+returns c =
+    let t = c.number_sets in
     let m = c.merge_starts-merged in
-    whole r t.result t.ensures c.in-Whole.count c.in-Whole.is m.result m.ensures
-    c.at_most_u8.result
-    c.at_most_u8-in-Whole.result
-    c.at_most_u8.ensures
-    c.at_most_u8-in-Whole.ensures
+    whole c.args.rule t.result t.ensures c.in-Some.table c.in-Some.is m.result m.ensures _ _ c.min.ensures c.min-2.ensures
 
-pub returns-in-Over : goal.returns-in-Over
-returns-in-Over c =
-    let t = c.number_sets-table in
-    let r = c.args.rule in
-    too_many_lem r t.result t.ensures (cc) c.nothing_built-built.result c.nothing_built-built.ensures
+pub returns-in_default : goal.returns-in_default
+returns-in_default c =
+    let t = c.number_sets in too_many_lem c.args.rule t.result t.ensures (cc)

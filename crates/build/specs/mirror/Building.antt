@@ -1,32 +1,27 @@
 -- What building a rule answers (document 01, "Load: check and build a rule", of which this is the
 -- part after the rule is checked).
 --
---   BuildReply, build_means  document 01's answer: accepted with the number of sets and M, or
---                            refused with a number; and what each case of the code's answer says
+--   BuildReply     document 01's answer: accepted with the number of sets and M, or refused with a
+--                  number
 --   built_of r     the rule r built: its sets, its next-set table, its delegates and M, and what
 --                  running needs
---   no_built       zeros, which a refusal carries
+--   no_built       zeros, which stand where there is no rule
 --   Outcome, build_outcome  the outcome of building: the answer, and the built rule; and
---                           the outcome that the code's result stands for
+--                           the outcome that each case of the code's result stands for
 --   build_of r     the outcome of building the rule r
-use Rattle.std.specs.Prelude.{cond, List, ℕ, min, length, replicate}
+use Rattle.std.specs.Prelude.{Result, Ok, Err, cond, List, ℕ, min, length, replicate}
+use Rattle.base.specs.declared.Refusal.{Refusal}
+use Rattle.base.specs.Answers.{refusal_number}
 use Rattle.limits.specs.Limits.{most_states, most_symbols, most_sets, table_cells}
 use Rattle.automaton.specs.declared.Rule.{Rule}
 use Rattle.subsets.specs.Sets.{sets_of, too_many, set_cells, next_cells}
 use Rattle.subsets.specs.mirror.Singles.{singles_of}
 use Rattle.delegates.specs.Claims.{starts_in}
-use Rattle.build.specs.declared.BuildAnswer.{BuildAnswer}
-use Rattle.build.specs.declared.BuildAnswer.TheVariants.{Accepted, Refused}
 use Rattle.build.specs.declared.Built.{Built}
-use Rattle.build.specs.declared.BuildResult.{BuildResult}
 
 pub data BuildReply : Type 0 where
   accepted : ℕ → ℕ → BuildReply
   refused : ℕ → BuildReply
-
-abbrev pub build_means : BuildAnswer → BuildReply
-build_means (Accepted sets starts) = accepted sets starts
-build_means (Refused number) = refused number
 
 module _ (r : Rule) where
   abbrev pub sets : List ℕ
@@ -65,8 +60,9 @@ pub record Outcome : Type 0 where
   pub answer : BuildReply
   pub built : Built
 
-abbrev pub build_outcome : BuildResult → Outcome
-build_outcome b = record { answer = build_means b.answer; built = b.built }
+abbrev pub build_outcome : Result Built Refusal → Outcome
+build_outcome (Ok built) = record { answer = accepted built.setcount built.startcount; built = built }
+build_outcome (Err refusal) = record { answer = refused (refusal_number refusal); built = no_built }
 
 unfoldable pub build_of : Rule → Outcome
 build_of r =

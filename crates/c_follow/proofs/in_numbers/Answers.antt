@@ -1,7 +1,8 @@
 -- `in_numbers` meets its contract. Assumes nothing.
 use Rattle.c_follow.proofs.in_numbers.Goals as goal
 
-pub returns : goal.returns
-returns c =
-    let flags = c.shown-shown.ensures in
-    rw (flags.0, flags.1, c.bit-ends.ensures, c.bit-complete.ensures, c.lost_flag-lost.ensures, c.lost_at-at.ensures)
+pub returns-in-Ok : goal.returns-in-Ok
+returns-in-Ok c = rw (c.in-Ok.is, c.bit.ensures, c.lost_flag.ensures, c.lost_at.ensures, c.bit-in-Ok.ensures)
+
+pub returns-in-Err : goal.returns-in-Err
+returns-in-Err c = rw (c.in-Err.is, c.number.ensures)

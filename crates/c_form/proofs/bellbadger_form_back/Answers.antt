@@ -3,5 +3,8 @@ use mathlib.Core.Path.{ap}
 use Rattle.c_form.specs.Numbers.{table_shown}
 use Rattle.c_form.proofs.bellbadger_form_back.Goals as goal
 
-pub returns : goal.returns
-returns c = rw (c.shown-shown.ensures.0, c.shown-shown.ensures.1) (ap table_shown c.table_of-back.ensures)
+pub returns-in-Ok : goal.returns-in-Ok
+returns-in-Ok c = ap table_shown c.in-Ok.ensures
+
+pub returns-in-Err : goal.returns-in-Err
+returns-in-Err c = rw (c.number.ensures, c.no_table-table.ensures) (ap table_shown c.in-Err.ensures)

@@ -1,10 +1,10 @@
 -- `bellbadger_profile_build` meets its contract. Assumes nothing.
-use borrow.Author.Rules.{rules}
-use Rattle.c_mappings.proofs.Numbers.{build_accepted, build_refused}
+use mathlib.Core.Path.{ap}
+use Rattle.c_mappings.specs.Numbers.{build_shown}
 use Rattle.c_mappings.proofs.bellbadger_profile_build.Goals as goal
 
-pub returns-in-Accepted : goal.returns-in-Accepted
-returns-in-Accepted c = search (rules, build_accepted)
+pub returns-in-Ok : goal.returns-in-Ok
+returns-in-Ok c = ap build_shown c.in-Ok.ensures
 
-pub returns-in-Refused : goal.returns-in-Refused
-returns-in-Refused c = search (rules, build_refused)
+pub returns-in-Err : goal.returns-in-Err
+returns-in-Err c = rw (c.number.ensures, c.nothing_built-profile.ensures) (ap build_shown c.in-Err.ensures)

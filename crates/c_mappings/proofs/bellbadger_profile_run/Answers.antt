@@ -3,5 +3,8 @@ use mathlib.Core.Path.{ap}
 use Rattle.c_mappings.specs.Numbers.{run_shown}
 use Rattle.c_mappings.proofs.bellbadger_profile_run.Goals as goal
 
-pub returns : goal.returns
-returns c = rw (c.shown-shown.ensures.0, c.shown-shown.ensures.1) (ap run_shown c.run-ran.ensures)
+pub returns-in-Ok : goal.returns-in-Ok
+returns-in-Ok c = ap run_shown c.in-Ok.ensures
+
+pub returns-in-Err : goal.returns-in-Err
+returns-in-Err c = rw c.number.ensures (ap run_shown c.in-Err.ensures)

@@ -3,5 +3,8 @@ use mathlib.Core.Path.{ap}
 use Rattle.c_reduce.specs.Numbers.{reduce_shown}
 use Rattle.c_reduce.proofs.bellbadger_reduce.Goals as goal
 
-pub returns : goal.returns
-returns c = rw (c.shown-shown.ensures.0, c.shown-shown.ensures.1, c.bit-installs.ensures) (ap reduce_shown c.reduce-reducing.ensures)
+pub returns-in-Ok : goal.returns-in-Ok
+returns-in-Ok c = rw c.bit.ensures (ap reduce_shown c.in-Ok.ensures)
+
+pub returns-in-Err : goal.returns-in-Err
+returns-in-Err c = rw (c.number.ensures, c.no_rule-rule.ensures) (ap reduce_shown c.in-Err.ensures)

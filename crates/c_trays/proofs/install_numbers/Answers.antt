@@ -1,10 +1,8 @@
 -- `install_numbers` meets its contract. Assumes nothing.
-use borrow.Author.Rules.{rules}
-use Rattle.c_trays.proofs.Numbers.{install_accepted, install_refused}
 use Rattle.c_trays.proofs.install_numbers.Goals as goal
 
-pub returns-in-Accepted : goal.returns-in-Accepted
-returns-in-Accepted c = search (rules, install_accepted)
+pub returns-in-Ok : goal.returns-in-Ok
+returns-in-Ok c = rw c.in-Ok.is
 
-pub returns-in-Refused : goal.returns-in-Refused
-returns-in-Refused c = search (rules, install_refused)
+pub returns-in-Err : goal.returns-in-Err
+returns-in-Err c = rw (c.in-Err.is, c.number.ensures)

@@ -1,17 +1,19 @@
 -- `run_deliver` meets its contract. Assumes nothing.
+use mathlib.Core.Path.{ap}
 use borrow.Author.Rules.{rules}
+use Rattle.base.specs.Options.{option_of}
 use Rattle.fields.proofs.Taking.{put_within, put_prefix}
 use Rattle.callrun.proofs.Carried.{deliver_malformed, deliver_put}
 use Rattle.callrun.proofs.run_deliver.Goals as goal
 
 pub slice_bounds-deliver-end : goal.slice_bounds-deliver-end
-slice_bounds-deliver-end c = search (rules, put_within)
+slice_bounds-deliver-end c = put_within _ _ _ _ c.read_bytes.ensures _ (ap option_of c.in-Some.is)
 
-pub slice_bounds-deliver-end-in-Put : goal.slice_bounds-deliver-end-in-Put
-slice_bounds-deliver-end-in-Put c = search (rules, put_prefix)
+pub slice_bounds-deliver-end-2 : goal.slice_bounds-deliver-end-2
+slice_bounds-deliver-end-2 c = put_prefix _ _ _ _ c.read_bytes.ensures _ (ap option_of c.in-Some.is)
 
-pub returns-in-Malformed : goal.returns-in-Malformed
-returns-in-Malformed c = search (rules, deliver_malformed)
+pub returns-in_default : goal.returns-in_default
+returns-in_default c = search (rules, deliver_malformed)
 
-pub returns-in-Put : goal.returns-in-Put
-returns-in-Put c = search (rules, deliver_put)
+pub returns : goal.returns
+returns c = search (rules, deliver_put)

@@ -7,8 +7,8 @@ use Rattle.calltext.proofs.delivery.Goals as goal
 pub returns-then-line-space : goal.returns-then-line-space
 returns-then-line-space c = (omega arith, search (rules, deliver_alone))
 
-pub returns-in-Value : goal.returns-in-Value
-returns-in-Value c = (search rules, search (rules, deliver_on))
+pub returns-in-Some : goal.returns-in-Some
+returns-in-Some c = (search rules, search (rules, deliver_on))
 
-pub returns-in-Malformed : goal.returns-in-Malformed
-returns-in-Malformed c = (omega arith, search (rules, deliver_malformed))
+pub returns-in-None : goal.returns-in-None
+returns-in-None c = (omega arith, search (rules, deliver_malformed))

@@ -12,7 +12,7 @@ pub returns-in_default : goal.returns-in_default
 returns-in_default c = (omega arith, search (rules, revision_malformed))
 
 pub returns-then-revision-gt-REVISION : goal.returns-then-revision-gt-REVISION
-returns-then-revision-gt-REVISION c = let large : 4294967295 < c.in-Value.revision = omega arith in (omega arith, search (rules, revision_large))
+returns-then-revision-gt-REVISION c = let large : 4294967295 < c.in-Some.revision = omega arith in (omega arith, search (rules, revision_large))
 
 pub returns : goal.returns
 returns c = (search rules, search (rules, revision_value))

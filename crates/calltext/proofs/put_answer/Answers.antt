@@ -8,13 +8,13 @@ pub returns-in-Install : goal.returns-in-Install
 returns-in-Install c = rw c.in-Install.is c.put_install.ensures
 
 pub returns-in-Open : goal.returns-in-Open
-returns-in-Open c = rw c.in-Open.is c.put_open.ensures
+returns-in-Open c = rw c.in-Open.is c.put_call.ensures
 
 pub returns-in-Deliver : goal.returns-in-Deliver
 returns-in-Deliver c = rw c.in-Deliver.is c.put_deliver.ensures
 
 pub returns-in-Withdraw : goal.returns-in-Withdraw
-returns-in-Withdraw c = rw c.in-Withdraw.is c.put_withdraw.ensures
+returns-in-Withdraw c = rw c.in-Withdraw.is c.put_call-in-Withdraw.ensures
 
 pub returns-in-Verdict : goal.returns-in-Verdict
 returns-in-Verdict c = rw c.in-Verdict.is c.put_report.ensures

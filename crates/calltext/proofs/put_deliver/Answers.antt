@@ -7,10 +7,10 @@ use Rattle.calltext.proofs.put_deliver.Goals as goal
 
 pub put_line-requires : goal.put_line-requires
 put_line-requires c =
-    omega (arith, c.requires, line_short accepted_word (c.in-Accepted.looked ∷ []))
+    omega (arith, c.requires, line_short accepted_word (c.in-Ok.looked ∷ []))
 
-pub returns-in-Accepted : goal.returns-in-Accepted
-returns-in-Accepted c = rw c.in-Accepted.is c.put_line.ensures
+pub returns-in-Ok : goal.returns-in-Ok
+returns-in-Ok c = rw c.in-Ok.is c.put_line.ensures
 
-pub returns-in-Refused : goal.returns-in-Refused
-returns-in-Refused c = rw c.in-Refused.is c.put_refused.ensures
+pub returns-in-Err : goal.returns-in-Err
+returns-in-Err c = rw (c.in-Err.is, ← c.number.ensures) c.put_refused.ensures

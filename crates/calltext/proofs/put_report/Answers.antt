@@ -28,4 +28,4 @@ pub returns-in-No : goal.returns-in-No
 returns-in-No c = rw c.in-No.is c.put_line-in-No.ensures
 
 pub returns-in-Refused : goal.returns-in-Refused
-returns-in-Refused c = rw c.in-Refused.is c.put_refused.ensures
+returns-in-Refused c = rw (c.in-Refused.is, ← c.number.ensures) c.put_refused.ensures

@@ -1,7 +1,10 @@
 -- `bellbadger_read` meets its contract. Assumes nothing.
-use mathlib.Core.Path.{ap}
-use Rattle.capi.specs.Numbers.{read_shown}
+use borrow.Author.Rules.{rules}
+use Rattle.capi.proofs.Numbers.{read_accepted, read_refused}
 use Rattle.capi.proofs.bellbadger_read.Goals as goal
 
-pub returns : goal.returns
-returns c = rw (c.shown-shown.ensures.0, c.shown-shown.ensures.1) (ap read_shown c.read-reading.ensures)
+pub returns-in-Ok : goal.returns-in-Ok
+returns-in-Ok c = search (rules, read_accepted)
+
+pub returns-in-Err : goal.returns-in-Err
+returns-in-Err c = search (rules, read_refused)

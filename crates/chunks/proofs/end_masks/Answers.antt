@@ -8,7 +8,7 @@ use Rattle.chunks.specs.mirror.Walks.{mask_of}
 use Rattle.chunks.proofs.end_masks.Goals as goal
 
 pub loop-q-init : goal.loop-q-init
-loop-q-init c = (omega arith, length-replicate {A = ℕ} 32 0, λ p h. absurd (omega arith))
+loop-q-init c = (length-replicate {A = ℕ} 32 0, λ p h. absurd (omega arith))
 
 pub set_of-requires : goal.set_of-requires
 set_of-requires c = c.requires c.loop-q.q
@@ -19,12 +19,11 @@ loop-q-preserved c =
     let sets = c.args.sets.now in
     let rows = c.args.rows in
     let v = c.mask_of in (
-      omega arith,
-      length-set l.ends l.q v.result ∙ l.invariant.1,
-      cell_stored l.ends (λ p. mask_of sets (get_or rows p 0 / 16)) l.q v.result (omega (arith, l.invariant.1)) (v.ensures ∙ ap (mask_of sets) c.set_of.ensures) l.invariant.2,
+      length-set l.ends l.q v.result ∙ l.invariant.0,
+      cell_stored l.ends (λ p. mask_of sets (get_or rows p 0 / 16)) l.q v.result (omega (arith, l.invariant.0)) (v.ensures ∙ ap (mask_of sets) c.set_of.ensures) l.invariant.1,
     )
 
 pub returns : goal.returns
 returns c =
     let l = c.loop-q in
-    is_list_from l.ends 32 (λ p. mask_of c.args.sets.now (get_or c.args.rows p 0 / 16)) l.invariant.1 (λ p h. l.invariant.2 p (omega arith))
+    is_list_from l.ends 32 (λ p. mask_of c.args.sets.now (get_or c.args.rows p 0 / 16)) l.invariant.0 (λ p h. l.invariant.1 p (omega arith))

@@ -1,28 +1,25 @@
 -- `has_foreign` meets its contract. The loop's invariant: the chunk has a foreign byte exactly
 -- where one was found or one is left. Assumes nothing.
 use mathlib.Core.Path.{refl, sym, ◌∙◌}
-use borrow.Author.Rules.{rules}
 use Rattle.chunks.proofs.Texts.{foreign_here, foreign_on, foreign_none}
-use Rattle.chunks.proofs.has_foreign.Goals.{else-k-chunk, then-k-chunk}
+use Rattle.chunks.proofs.has_foreign.Goals.{else-k-byte, then-k-byte}
 use Rattle.chunks.proofs.has_foreign.Goals as goal
 
-pub loop-i-init : goal.loop-i-init
-loop-i-init c = (search rules, refl)
+pub loop-byte-init : goal.loop-byte-init
+loop-byte-init c = refl
 
-pub loop-i-preserved : goal.loop-i-preserved
-loop-i-preserved c =
-    let l = c.loop-i in
+pub loop-byte-preserved : goal.loop-byte-preserved
+loop-byte-preserved c =
+    let l = c.loop-byte in
     let a = c.args in
-    let h = c.loop-i-test.true in (
-      search rules,
-      (elim c.if-k-chunk.branch [
-        | then-k-chunk w ↦ rw w.found-is (l.invariant.1 ∙ foreign_here a.chunk.now a.k l.i l.found h w.if-k-chunk.true)
-        | else-k-chunk w ↦ rw w.found-is (l.invariant.1 ∙ foreign_on a.chunk.now a.k l.i l.found h w.if-k-chunk.false)
-      ]),
-    )
+    let h = c.loop-byte-test.true in
+    (elim c.if-k-byte.branch [
+      | then-k-byte w ↦ rw w.found-is (l.invariant ∙ foreign_here a.chunk.now a.k l.byte-index l.found h w.if-k-byte.true)
+      | else-k-byte w ↦ rw w.found-is (l.invariant ∙ foreign_on a.chunk.now a.k l.byte-index l.found h w.if-k-byte.false)
+    ])
 
 pub returns : goal.returns
 returns c =
-    let l = c.loop-i in
+    let l = c.loop-byte in
     let a = c.args in
-    sym (l.invariant.1 ∙ foreign_none a.chunk.now a.k l.i l.found c.loop-i-test.false)
+    sym (l.invariant ∙ foreign_none a.chunk.now a.k l.byte-index l.found c.loop-byte-test.false)

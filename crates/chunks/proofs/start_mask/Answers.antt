@@ -3,7 +3,6 @@
 use mathlib.Core.Path.{◌≡◌, refl, ap, ap₂, ◌∙◌}
 use Prim.Native.Nat.{min}
 use native.Mathlib.Omega.{arith}
-use borrow.Author.Rules.{rules}
 use lib.Bits.{bit_or}
 use Rattle.delegates.specs.Alike.{start_set}
 use Rattle.chunks.proofs.Starts.{start_more, start_other}
@@ -12,21 +11,19 @@ use Rattle.chunks.proofs.start_mask.Goals as goal
 
 pub loop-q-init : goal.loop-q-init
 unfolding start_set
-loop-q-init c = (omega arith, refl)
+loop-q-init c = refl
 
 pub loop-q-preserved : goal.loop-q-preserved
 loop-q-preserved c =
     let l = c.loop-q in
-    let d = c.args.delegates in (
-      search rules,
-      (elim c.if-delegates-i.branch [
-        | then-delegates-i w ↦ w.starts-is ∙ w.union-starts.ensures ∙ ap₂ bit_or l.invariant.1 w.singleton.ensures ∙ start_more d l.q w.if-delegates-i.true
-        | else-delegates-i w ↦ w.starts-is ∙ l.invariant.1 ∙ start_other d l.q w.if-delegates-i.false
-      ]),
-    )
+    let d = c.args.delegates in
+    (elim c.if-delegates-i.branch [
+      | then-delegates-i w ↦ w.starts-is ∙ w.union-starts.ensures ∙ ap₂ bit_or l.invariant w.singleton.ensures ∙ start_more d l.q w.if-delegates-i.true
+      | else-delegates-i w ↦ w.starts-is ∙ l.invariant ∙ start_other d l.q w.if-delegates-i.false
+    ])
 
 pub returns : goal.returns
 returns c =
     let l = c.loop-q in
     let e : l.q ≡ min c.args.n 32 = omega arith in
-    l.invariant.1 ∙ ap (start_set c.args.delegates) e
+    l.invariant ∙ ap (start_set c.args.delegates) e

@@ -1,12 +1,8 @@
 -- `start_mask` meets its contract. The loop's invariant: the set has the starts below q. Assumes
 -- nothing.
 use mathlib.Core.Path.{◌≡◌}
-use Prim.Native.Nat.{◌-◌, ◌≤◌, min}
 use Rattle.delegates.specs.Alike.{start_set}
 use Rattle.chunks.proofs.start_mask.Given as goal
 
 abbrev pub invariant-loop-q : goal.invariant-loop-q
-invariant-loop-q l = (l.q ≤ min l.n 32) × (l.starts ≡ start_set l.delegates l.q)
-
-abbrev pub decreases-loop-q : goal.decreases-loop-q
-decreases-loop-q l = min l.n 32 - l.q
+invariant-loop-q l = l.starts ≡ start_set l.delegates l.q

@@ -11,7 +11,7 @@ use Rattle.chunks.proofs.start_rows.Goals.{else-member, then-member}
 use Rattle.chunks.proofs.start_rows.Goals as goal
 
 pub loop-q-init : goal.loop-q-init
-loop-q-init c = (omega arith, length-replicate {A = ℕ} 32 8192, λ p h. absurd (omega arith), λ p h b. get_or-replicate {A = ℕ} 32 p 8192 0 b)
+loop-q-init c = (length-replicate {A = ℕ} 32 8192, λ p h. absurd (omega arith), λ p h b. get_or-replicate {A = ℕ} 32 p 8192 0 b)
 
 pub loop-q-preserved : goal.loop-q-preserved
 loop-q-preserved c =
@@ -21,20 +21,18 @@ loop-q-preserved c =
     let m = c.member.ensures in
     (elim c.if-member.branch [
       | then-member w ↦ let v = w.row_of in (
-        omega arith,
-        rw w.rows-is (length-set l.rows l.q v.result ∙ l.invariant.1),
-        rw w.rows-is (cell_stored l.rows (start_row singles mask) l.q v.result (omega (arith, l.invariant.1)) (v.ensures ∙ rw (sym m ∙ w.if-member.true)) l.invariant.2),
-        λ p h b. rw w.rows-is (get_or-set_other l.rows l.q p v.result 0 (λ e. omega arith) ∙ l.invariant.3 p (omega arith) b),
+        rw w.rows-is (length-set l.rows l.q v.result ∙ l.invariant.0),
+        rw w.rows-is (cell_stored l.rows (start_row singles mask) l.q v.result (omega (arith, l.invariant.0)) (v.ensures ∙ rw (sym m ∙ w.if-member.true)) l.invariant.1),
+        λ p h b. rw w.rows-is (get_or-set_other l.rows l.q p v.result 0 (λ e. omega arith) ∙ l.invariant.2 p (omega arith) b),
       )
       | else-member w ↦ (
-        omega arith,
-        rw w.rows-is l.invariant.1,
-        rw w.rows-is (below_more (λ p. get_or l.rows p 0 ≡ start_row singles mask p) l.q l.invariant.2 (l.invariant.3 l.q (omega arith) (omega arith) ∙ rw (sym m ∙ w.if-member.false))),
-        λ p h b. rw w.rows-is (l.invariant.3 p (omega arith) b),
+        rw w.rows-is l.invariant.0,
+        rw w.rows-is (below_more (λ p. get_or l.rows p 0 ≡ start_row singles mask p) l.q l.invariant.1 (l.invariant.2 l.q (omega arith) (omega arith) ∙ rw (sym m ∙ w.if-member.false))),
+        λ p h b. rw w.rows-is (l.invariant.2 p (omega arith) b),
       )
     ])
 
 pub returns : goal.returns
 returns c =
     let l = c.loop-q in
-    is_list_from l.rows 32 (start_row c.args.singles.now c.args.mask) l.invariant.1 (λ p h. l.invariant.2 p (omega arith))
+    is_list_from l.rows 32 (start_row c.args.singles.now c.args.mask) l.invariant.0 (λ p h. l.invariant.1 p (omega arith))

@@ -6,22 +6,22 @@ use Rattle.base.specs.Totals.{total}
 use Rattle.base.proofs.Totals.{total_more, total_most}
 use Rattle.chunks.proofs.summed.Goals as goal
 
-pub loop-q-init : goal.loop-q-init
+pub loop-one-init : goal.loop-one-init
 unfolding total
-loop-q-init c = (omega arith, refl)
+loop-one-init c = refl
 
 pub overflow_add-count : goal.overflow_add-count
 overflow_add-count c =
-    let l = c.loop-q in
-    omega (arith, l.invariant.1, c.requires l.q, total_most (λ p. get_or c.args.counts p 0) 65536 l.q (λ p h. c.requires p))
+    let l = c.loop-one in
+    omega (arith, l.invariant, c.requires l.one-index, total_most (λ p. get_or c.args.counts p 0) 65536 l.one-index (λ p h. c.requires p))
 
-pub loop-q-preserved : goal.loop-q-preserved
-loop-q-preserved c =
-    let l = c.loop-q in
-    (omega arith, omega (arith, l.invariant.1, total_more (λ p. get_or c.args.counts p 0) l.q))
+pub loop-one-preserved : goal.loop-one-preserved
+loop-one-preserved c =
+    let l = c.loop-one in
+    (omega (arith, l.invariant, total_more (λ p. get_or c.args.counts p 0) l.one-index))
 
 pub returns : goal.returns
 returns c =
-    let l = c.loop-q in
-    let all : l.q ≡ 32 = omega arith in
-    l.invariant.1 ∙ ap (total (λ p. get_or c.args.counts p 0)) all
+    let l = c.loop-one in
+    let all : l.one-index ≡ 32 = omega arith in
+    l.invariant ∙ ap (total (λ p. get_or c.args.counts p 0)) all

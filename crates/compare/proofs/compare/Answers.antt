@@ -1,30 +1,25 @@
 -- `compare` meets its contract: the first rule is refused, the second, the two, or they are searched.
 -- Assumes nothing.
+use Rattle.std.proofs.Common.{sym}
+use Rattle.std.proofs.lemmas.Result.{err_from_is_err_and}
 use Rattle.compare.proofs.Ways.{compare_first, compare_second, compare_36, compare_both}
 use Rattle.compare.proofs.compare.Goals as goal
 
-pub returns-in-Refused : goal.returns-in-Refused
-returns-in-Refused c =
-    let x = c.check_rule-first in
-    compare_first c.args.one c.args.two x.result x.ensures _ _ c.in-Refused.is c.give_none.ensures
+pub returns-in_err-check_rule : goal.returns-in_err-check_rule
+returns-in_err-check_rule c =
+    let p = err_from_is_err_and c.from_residual.result c.from_residual.ensures.1 in
+    rw (p.1, p.2) (compare_first c.args.one c.args.two _ (sym c.in_err-check_rule.ensures))
 
-pub returns-in-Refused-second : goal.returns-in-Refused-second
-returns-in-Refused-second c =
-    let x = c.check_rule-first in
-    let y = c.check_rule-second in
-    compare_second c.args.one c.args.two x.result x.ensures c.in_default.is y.result y.ensures
-    _ _ c.in-Refused-second.is c.give_none-in-Refused-second.ensures
+pub returns-in_err-check_rule-2 : goal.returns-in_err-check_rule-2
+returns-in_err-check_rule-2 c =
+    let p = err_from_is_err_and c.from_residual-in_err-check_rule-2.result c.from_residual-in_err-check_rule-2.ensures.1 in
+    rw (p.1, p.2) (compare_second c.args.one c.args.two (sym c.in_ok-check_rule.ensures) _ (sym c.in_err-check_rule-2.ensures))
 
 pub returns-then-one-two : goal.returns-then-one-two
 returns-then-one-two c =
-    let x = c.check_rule-first in
-    let y = c.check_rule-second in
-    compare_36 c.args.one c.args.two x.result x.ensures c.in_default.is y.result y.ensures c.in_default-second.is
-    _ c.if-one-two.true c.give_none-then-one-two.ensures
+    compare_36 c.args.one c.args.two (sym c.in_ok-check_rule.ensures) (sym c.in_ok-check_rule-2.ensures) c.if-one-two.true
 
 pub search_pairs-requires : goal.search_pairs-requires
 search_pairs-requires c =
-    let x = c.check_rule-first in
-    let y = c.check_rule-second in
-    let both = compare_both c.args.one c.args.two x.result x.ensures c.in_default.is y.result y.ensures c.in_default-second.is in
+    let both = compare_both c.args.one c.args.two (sym c.in_ok-check_rule.ensures) (sym c.in_ok-check_rule-2.ensures) in
     (both.0, both.1, c.if-one-two.false)

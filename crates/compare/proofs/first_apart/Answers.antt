@@ -1,7 +1,6 @@
 -- `first_apart` meets its contract. The invariant: no pair passed tells the two apart. Assumes
 -- nothing.
-use mathlib.Core.Path.{sym, ◌∙◌}
-use mathlib.Core.Bool.{false}
+use mathlib.Core.Path.{◌≡◌, sym, ◌∙◌}
 use native.Mathlib.Omega.{arith}
 use borrow.Author.Count.{below_more}
 use Rattle.compare.specs.Search.{differs}
@@ -24,4 +23,5 @@ pub returns : goal.returns
 returns c =
     let x = c.loop-i in
     let a = c.args in
-    where_none (differs a.finals a.others) a.pairs.now a.count x.i (omega arith) x.invariant.1 (omega arith) (omega arith)
+    let e : x.i ≡ a.count = omega arith in
+    sym e ∙ where_none (differs a.finals a.others) a.pairs.now a.count x.i (omega arith) x.invariant.1 (omega arith) (omega arith)

@@ -16,25 +16,26 @@ unfolding first_in_class
 loop-p-init c =
     let a = c.args in
     let all : a.q.0 ≡ a.q.0 - 0 = omega arith in
-    (omega arith, ap (first_from (λ u. eqb (class_of a.own.now u) (class_of a.own.now a.q.0)) 0) all)
+    ap (first_from (λ u. eqb (class_of a.own.now u) (class_of a.own.now a.q.0)) 0) all
 
 pub returns-then-own-i : goal.returns-then-own-i
 returns-then-own-i c =
     let l = c.loop-p in
     let a = c.args in
     let test : ℕ → Bool = λ u. eqb (class_of a.own.now u) (class_of a.own.now a.q.0) in
-    first_here test l.p a.q.0 (omega arith) (eq-eqb (class_of a.own.now l.p) (class_of a.own.now a.q.0) c.if-own-i.true) ∙ sym l.invariant.1
+    first_here test l.p a.q.0 (omega arith) (eq-eqb (class_of a.own.now l.p) (class_of a.own.now a.q.0) c.if-own-i.true) ∙ sym l.invariant
 
 pub loop-p-preserved : goal.loop-p-preserved
 loop-p-preserved c =
     let l = c.loop-p in
     let a = c.args in
     let test : ℕ → Bool = λ u. eqb (class_of a.own.now u) (class_of a.own.now a.q.0) in
-    (omega arith, l.invariant.1 ∙ first_past test l.p a.q.0 (omega arith) (ne_eqb (class_of a.own.now l.p) (class_of a.own.now a.q.0) c.if-own-i.false))
+    l.invariant ∙ first_past test l.p a.q.0 (omega arith) (ne_eqb (class_of a.own.now l.p) (class_of a.own.now a.q.0) c.if-own-i.false)
 
 pub returns : goal.returns
 returns c =
     let l = c.loop-p in
     let a = c.args in
     let test : ℕ → Bool = λ u. eqb (class_of a.own.now u) (class_of a.own.now a.q.0) in
-    first_end test l.p a.q.0 (omega arith) ∙ sym l.invariant.1
+    let e : a.q.0 ≡ l.p = omega arith in
+    e ∙ first_end test l.p a.q.0 (omega arith) ∙ sym l.invariant

@@ -2,9 +2,8 @@
 use mathlib.Core.Path.{◌≡◌, sym, ap, ◌∙◌}
 use mathlib.Core.Bool.{cond}
 use mathlib.Core.List.{List}
-use Prim.Native.Nat.{ℕ, ◌+◌, ◌<◌, min, zero-le}
+use Prim.Native.Nat.{ℕ, ◌+◌, ◌<◌, min}
 use native.Mathlib.Nat.{add-zero, lt_of_lt_of_le, min-le_right}
-use native.Mathlib.Numerals.{add-one}
 use native.Mathlib.Omega.{arith}
 use borrow.Author.Tests.{eq-eqb, ne_eqb}
 use lib.Dec.{eqb}
@@ -17,7 +16,7 @@ use Rattle.delegates.proofs.merge_starts.Goals as goal
 pub loop-q-init : goal.loop-q-init
 loop-q-init c =
     let a = c.args in
-    (zero-le, begun a.sets.now a.next.now a.finals a.singles.now (min a.k 16))
+    begun a.sets.now a.next.now a.finals a.singles.now (min a.k 16)
 
 pub loop-q-preserved : goal.loop-q-preserved
 loop-q-preserved c =
@@ -26,29 +25,27 @@ loop-q-preserved c =
     let d = c.delegate_cell-delegate in
     let x : ℕ = c.single-set.result.0 in
     let all : c.refine-class.result ≡ classes_of a.sets.now a.next.now a.finals (min a.k 16) =
-    rw (← c.at_most_u8-symbols.ensures) c.refine-class.ensures in
+    rw (← c.min-symbols.ensures) c.refine-class.ensures in
     let is : class_of c.refine-class.result x ≡ class_at a.sets.now a.next.now a.finals a.singles.now (min a.k 16) l.q =
     rw (all, c.single-set.ensures) in
-    let below : l.q < min a.n 32 = rw c.at_most_u8-states.ensures at c.loop-q-test.true in
+    let below : l.q < min a.n 32 = rw c.min-states.ensures at c.loop-q-test.true in
     let counted : c.if-delegate-q.starts ≡ l.starts + cond (eqb d.result l.q) 1 0 =
     (elim c.if-delegate-q.branch [
       | then-delegate-q w ↦ w.starts-is ∙ rw (eq-eqb d.result l.q w.if-delegate-q.true)
       | else-delegate-q w ↦ w.starts-is ∙ rw (ne_eqb d.result l.q w.if-delegate-q.false) (sym (add-zero l.starts))
-    ]) in (
-      rw add-one below,
-      turned a.sets.now a.next.now a.finals a.singles.now (min a.k 16) l.own l.delegates l.starts l.q l.invariant.1
-          (lt_of_lt_of_le below (min-le_right a.n 32))
-          (class_of c.refine-class.result x)
-          d.result
-          is
-          (d.ensures ∙ ap (λ (e : List ℕ). cell_in (set l.own l.q (class_of c.refine-class.result x)) (class_of e 512) l.q) all)
-          c.if-delegate-q.starts
-          counted,
-    )
+    ]) in
+    turned a.sets.now a.next.now a.finals a.singles.now (min a.k 16) l.own l.delegates l.starts l.q l.invariant
+    (lt_of_lt_of_le below (min-le_right a.n 32))
+    (class_of c.refine-class.result x)
+    d.result
+    is
+    (d.ensures ∙ ap (λ (e : List ℕ). cell_in (set l.own l.q (class_of c.refine-class.result x)) (class_of e 512) l.q) all)
+    c.if-delegate-q.starts
+    counted
 
 pub returns : goal.returns
 returns c =
     let l = c.loop-q in
     let a = c.args in
     let e : l.q ≡ min a.n 32 = omega arith in
-    all_merged a.sets.now a.next.now a.finals a.singles.now a.n a.k l.own l.delegates l.starts l.q e l.invariant.1
+    all_merged a.sets.now a.next.now a.finals a.singles.now a.n a.k l.own l.delegates l.starts l.q e l.invariant

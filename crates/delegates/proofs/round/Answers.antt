@@ -1,5 +1,6 @@
 -- `round` meets its contract. The loop's invariant: each set passed has its new class, and
 -- `changed` tells whether that of one of them is another than its old one. Assumes nothing.
+use borrow.Author.Rules.{rules}
 use mathlib.Core.Path.{◌≡◌, refl, sym, ap, ◌∙◌}
 use mathlib.Core.Bool.{Bool, not}
 use Prim.Native.Nat.{ℕ}
@@ -17,7 +18,7 @@ use Rattle.delegates.proofs.round.Goals as goal
 
 pub loop-s-init : goal.loop-s-init
 unfolding every
-loop-s-init c = (omega arith, c.cells.ensures, below_none _, refl)
+loop-s-init c = ((search rules), below_none _, refl)
 
 pub least-to-requires : goal.least-to-requires
 least-to-requires c = (c.requires, omega arith)
@@ -29,12 +30,11 @@ loop-s-preserved c =
     let least : ℕ → ℕ = least_of a.sets.now a.next.now a.finals a.k a.class.now in
     let test : ℕ → Bool = λ b. eqb (class_of a.class.now b) (least b) in
     let is : c.least-to.result.0 ≡ least l.s = c.least-to.ensures in (
-      omega arith,
-      simp length-set l.invariant.1,
-      cell_stored l.new least l.s c.least-to.result.0 (omega arith) is l.invariant.2,
+      simp length-set l.invariant.0,
+      cell_stored l.new least l.s c.least-to.result.0 (omega arith) is l.invariant.1,
       (elim c.if-from-to.branch [
         | then-from-to w ↦ w.changed-is ∙ every_fails test l.s (ne_eqb (class_of a.class.now l.s) (least l.s) (λ e. w.if-from-to.true (e ∙ sym is)))
-        | else-from-to w ↦ w.changed-is ∙ l.invariant.3 ∙ ap not (every_more test l.s (eq-eqb (class_of a.class.now l.s) (least l.s) (w.if-from-to.false ∙ is)))
+        | else-from-to w ↦ w.changed-is ∙ l.invariant.2 ∙ ap not (every_more test l.s (eq-eqb (class_of a.class.now l.s) (least l.s) (w.if-from-to.false ∙ is)))
       ]),
     )
 
@@ -44,6 +44,6 @@ returns c =
     let a = c.args in
     let least : ℕ → ℕ = least_of a.sets.now a.next.now a.finals a.k a.class.now in
     let all : l.s ≡ 513 = omega arith in (
-      is_list_from l.new 513 least l.invariant.1 (λ b h. l.invariant.2 b (omega arith)),
-      l.invariant.3 ∙ ap (λ (n : ℕ). not (every n (λ b. eqb (class_of a.class.now b) (least b)))) all,
+      is_list_from l.new 513 least l.invariant.0 (λ b h. l.invariant.1 b (omega arith)),
+      l.invariant.2 ∙ ap (λ (n : ℕ). not (every n (λ b. eqb (class_of a.class.now b) (least b)))) all,
     )

@@ -2,7 +2,7 @@
 -- `changed` tells whether that of one of them is another than its old one. Assumes nothing.
 use mathlib.Core.Path.{◌≡◌}
 use mathlib.Core.Bool.{not}
-use Prim.Native.Nat.{ℕ, ◌-◌, ◌≤◌, ◌<◌}
+use Prim.Native.Nat.{ℕ, ◌<◌}
 use lib.Dec.{eqb}
 use lib.ListN.{length}
 use Rattle.delegates.specs.mirror.Classes.{every}
@@ -11,8 +11,5 @@ use Rattle.delegates.proofs.round.Given as goal
 
 abbrev pub invariant-loop-s : goal.invariant-loop-s
 invariant-loop-s l =
-    (l.s ≤ 513) × (length l.new ≡ 513) × ((b : ℕ) → b < l.s → class_of l.new b ≡ least_of l.sets l.next l.finals l.k l.class b)
+    (length l.new ≡ 513) × ((b : ℕ) → b < l.s → class_of l.new b ≡ least_of l.sets l.next l.finals l.k l.class b)
     × (l.changed ≡ not (every l.s (λ b. eqb (class_of l.class b) (least_of l.sets l.next l.finals l.k l.class b))))
-
-abbrev pub decreases-loop-s : goal.decreases-loop-s
-decreases-loop-s l = 513 - l.s

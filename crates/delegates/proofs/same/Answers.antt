@@ -3,7 +3,6 @@
 use mathlib.Core.Path.{sym, ap, ◌∙◌}
 use Prim.Native.Nat.{◌≤◌}
 use native.Mathlib.Nat.{lt_of_lt_of_le}
-use native.Mathlib.Numerals.{add-one}
 use native.Mathlib.Omega.{arith}
 use borrow.Author.Count.{below_none, below_more}
 use Rattle.delegates.specs.mirror.Refinement.{class_of}
@@ -33,7 +32,8 @@ returns-then-f-g c =
     refuted (same_law c.args.sets.now c.args.next.now c.args.finals c.args.k c.args.class.now c.args.t.0 c.args.s.0) (λ x. differ f.result g.result c.if-f-g.true (f.ensures ∙ x.kind ∙ sym g.ensures))
 
 pub loop-a-init : goal.loop-a-init
-loop-a-init c = (omega arith, below_none _)
+loop-a-init c =
+    below_none _
 
 pub offset_bounds-class-u : goal.offset_bounds-class-u
 offset_bounds-class-u c = omega (arith, x-within (goal.at.offset_bounds-class-u c).After-follow-x)
@@ -61,11 +61,9 @@ returns-then-class-u c =
 pub loop-a-preserved : goal.loop-a-preserved
 loop-a-preserved c =
     let l = c.loop-a in
-    let a = c.args in (
-      rw add-one c.loop-a-test.true,
-      below_more _ _ l.invariant.1
-          (sym (ap (class_of a.class.now) c.follow-x.ensures) ∙ c.if-class-u.false ∙ ap (class_of a.class.now) c.follow-y.ensures),
-    )
+    let a = c.args in
+    below_more _ _ l.invariant
+    (sym (ap (class_of a.class.now) c.follow-x.ensures) ∙ c.if-class-u.false ∙ ap (class_of a.class.now) c.follow-y.ensures)
 
 pub returns : goal.returns
 returns c =
@@ -76,5 +74,5 @@ returns c =
     (record {
       here = c.if-class-i.false;
       kind = sym f.ensures ∙ agree f.result g.result c.if-f-g.false ∙ g.ensures;
-      there = λ a h. l.invariant.1 a (lt_of_lt_of_le h c.loop-a-test.false);
+      there = λ a h. l.invariant a (lt_of_lt_of_le h c.loop-a-test.false);
     })

@@ -4,8 +4,8 @@ use Rattle.dotgraph.proofs.put_dot.Goals as goal
 
 pub returns : goal.returns
 returns c =
-    let n = c.at_most_u8-n in
-    let k = c.at_most_u8-k in
+    let n = c.min-n in
+    let k = c.min-k in
     whole c.args.rule n.result k.result n.ensures k.ensures c.requires
     c.put_head-a.ensures
     c.put_states-b.ensures

@@ -7,7 +7,8 @@ use Rattle.dotlabels.specs.Labels.{leads}
 use Rattle.dotlabels.proofs.any_below.Goals as goal
 
 pub loop-s-init : goal.loop-s-init
-loop-s-init c = let a = c.args in (omega arith, none_yet (leads a.targets.now a.k a.q.0 a.t.0))
+loop-s-init c = let a = c.args in
+    none_yet (leads a.targets.now a.k a.q.0 a.t.0)
 
 pub leads-requires : goal.leads-requires
 leads-requires c = c.requires
@@ -21,10 +22,10 @@ pub loop-s-preserved : goal.loop-s-preserved
 loop-s-preserved c =
     let a = c.args in
     let x = c.loop-s in
-    (omega (arith, c.loop-s-test.true), none_more (leads a.targets.now a.k a.q.0 a.t.0) x.s x.invariant.1 (sym c.leads.ensures ∙ c.if-leads.false))
+    none_more (leads a.targets.now a.k a.q.0 a.t.0) x.s x.invariant (sym c.leads.ensures ∙ c.if-leads.false)
 
 pub returns : goal.returns
 returns c =
     let x = c.loop-s in
-    let e : x.s ≡ c.args.end = omega (arith, x.invariant.0, c.loop-s-test.false) in
-    sym (rw e at x.invariant.1)
+    let e : x.s ≡ c.args.end = omega arith in
+    sym (rw e at x.invariant)

@@ -1,13 +1,9 @@
 -- `any_below` meets its contract. The loop's invariant: no symbol passed leads. Assumes nothing.
 use mathlib.Core.Path.{◌≡◌}
 use mathlib.Core.Bool.{false}
-use Prim.Native.Nat.{◌-◌, ◌≤◌}
 use Rattle.base.specs.Conditions.{any_below}
 use Rattle.dotlabels.specs.Labels.{leads}
 use Rattle.dotlabels.proofs.any_below.Given as goal
 
 abbrev pub invariant-loop-s : goal.invariant-loop-s
-invariant-loop-s l = (l.s ≤ l.end) × (any_below (leads l.targets l.k l.q.0 l.t.0) l.s ≡ false)
-
-abbrev pub decreases-loop-s : goal.decreases-loop-s
-decreases-loop-s l = l.end - l.s
+invariant-loop-s l = any_below (leads l.targets l.k l.q.0 l.t.0) l.s ≡ false

@@ -14,11 +14,11 @@ fits : (c : In-loop-i) → c.loop-i.at + c.args.width ≤ length c.args.cells.no
 fits c =
     let x = c.loop-i in
     let a = c.args in
-    row_fits a.width a.rows a.from a.cells.now x.invariant.2 x.i x.at x.invariant.1 c.loop-i-test.true
+    row_fits a.width a.rows a.from a.cells.now x.invariant.1 x.i x.at x.invariant.0 c.loop-i-test.true
 
 pub loop-i-init : goal.loop-i-init
 unfolding first_found
-loop-i-init c = (omega arith, omega arith, c.requires.0, refl)
+loop-i-init c = (omega arith, c.requires.0, refl)
 
 pub overflow_add-end : goal.overflow_add-end
 overflow_add-end c = omega (arith, fits c)
@@ -33,17 +33,16 @@ pub returns-then-not-meets : goal.returns-then-not-meets
 returns-then-not-meets c =
     let x = c.loop-i in
     let a = c.args in
-    wrong a.width a.rows a.from a.cells.now x.invariant.2 a.rule a.band x.i x.at x.invariant.1 c.loop-i-test.true x.invariant.3
+    wrong a.width a.rows a.from a.cells.now x.invariant.1 a.rule a.band x.i x.at x.invariant.0 c.loop-i-test.true x.invariant.2
     _ c.set_after-set.ensures _ c.meets.ensures (not_from_false _ c.if-not-meets.true)
 
 pub loop-i-preserved : goal.loop-i-preserved
 loop-i-preserved c =
     let x = c.loop-i in
     let a = c.args in (
-      omega arith,
-      row_next a.width a.rows a.from a.cells.now x.invariant.2 x.i x.at x.invariant.1,
-      x.invariant.2,
-      right a.width a.rows a.from a.cells.now x.invariant.2 a.rule a.band x.i x.at x.invariant.1 c.loop-i-test.true x.invariant.3
+      row_next a.width a.rows a.from a.cells.now x.invariant.1 x.i x.at x.invariant.0,
+      x.invariant.1,
+      right a.width a.rows a.from a.cells.now x.invariant.1 a.rule a.band x.i x.at x.invariant.0 c.loop-i-test.true x.invariant.2
           _ c.set_after-set.ensures _ c.meets.ensures (not_from_true _ c.if-not-meets.false),
     )
 
@@ -51,4 +50,4 @@ pub returns : goal.returns
 returns c =
     let x = c.loop-i in
     let a = c.args in
-    all_right a.width a.rows a.from a.cells.now x.invariant.2 a.rule a.band x.i x.invariant.0 c.loop-i-test.false x.invariant.3
+    all_right a.width a.rows a.from a.cells.now x.invariant.1 a.rule a.band x.i (omega arith) c.loop-i-test.false x.invariant.2

@@ -2,7 +2,6 @@
 -- is not accepted is known. Assumes nothing.
 use mathlib.Core.Path.{◌≡◌}
 use mathlib.Core.Option.{none}
-use Prim.Native.Nat.{◌-◌, ◌≤◌}
 use Rattle.live.specs.Live.{live_of}
 use Rattle.trays.specs.Boards.{band_in}
 use Rattle.faults.specs.First.{first_found}
@@ -12,8 +11,5 @@ use Rattle.faults.proofs.column_fault.Given as goal
 
 abbrev pub invariant-loop-c : goal.invariant-loop-c
 invariant-loop-c l =
-    (l.c ≤ l.width) × (l.live ≡ live_of l.rule) × (first_found (stuck_at l.rule (band_in l.width l.rows l.cells) l.width l.bands) l.c ≡ none)
+    (l.live ≡ live_of l.rule) × (first_found (stuck_at l.rule (band_in l.width l.rows l.cells) l.width l.bands) l.c ≡ none)
     × (found_means l.short ≡ first_found (column_short l.rule (band_in l.width l.rows l.cells) l.bands) l.c)
-
-abbrev pub decreases-loop-c : goal.decreases-loop-c
-decreases-loop-c l = l.width - l.c

@@ -5,12 +5,11 @@ use Rattle.faults.proofs.fault.Goals as goal
 pub returns-then-board-eq0 : goal.returns-then-board-eq0
 returns-then-board-eq0 c = fault_21 c.args.tray c.if-board-eq0.true
 
-pub returns-in-At : goal.returns-in-At
-returns-in-At c =
-    fault_row c.args.tray c.if-board-eq0.false _ _ c.width_of-width.ensures.0 c.bands_of-bands.ensures _ c.row_fault-found.ensures
-    _ c.in-At.is
+pub returns-in-Some : goal.returns-in-Some
+returns-in-Some c =
+    fault_row c.args.tray c.if-board-eq0.false _ _ c.width_of-width.ensures.0 c.bands_of-bands.ensures _ c.in-Some.ensures
 
-pub returns-in-Nothing : goal.returns-in-Nothing
-returns-in-Nothing c =
-    fault_beyond c.args.tray c.if-board-eq0.false _ _ c.width_of-width.ensures.0 c.bands_of-bands.ensures _ c.row_fault-found.ensures
-    c.in-Nothing.is c.beyond_rows.result c.beyond_rows.ensures
+pub returns-in-None : goal.returns-in-None
+returns-in-None c =
+    fault_beyond c.args.tray c.if-board-eq0.false _ _ c.width_of-width.ensures.0 c.bands_of-bands.ensures c.in-None.ensures
+    _ c.beyond_rows.ensures

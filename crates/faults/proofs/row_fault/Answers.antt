@@ -12,34 +12,30 @@ use Rattle.faults.proofs.row_fault.Goals as goal
 
 pub loop-p-init : goal.loop-p-init
 unfolding first_found
-loop-p-init c = (omega arith, refl)
+loop-p-init c = refl
 
-pub band_fault-found-requires : goal.band_fault-found-requires
-band_fault-found-requires c = (
+pub band_fault-requires : goal.band_fault-requires
+band_fault-requires c = (
   band_fits c.loop-p.p c.row_count-count.result c.args.width (length c.args.cells.now) (omega arith)
       c.row_count-count.ensures.1 c.requires.1 c.requires.0,
   c.row_count-count.ensures.1,
 )
 
-pub returns-in-At : goal.returns-in-At
-returns-in-At c =
+pub returns-in-Some : goal.returns-in-Some
+returns-in-Some c =
     let x = c.loop-p in
     let a = c.args in
-    answer_found _ a.bands x.p x.invariant.1 c.loop-p-test.true _
-    (c.band_fault-found.ensures ∙ ap (λ (n : ℕ). band_wrong a.rule x.p (rows_of a.width n (drop (x.p * 1024) a.cells.now))) c.row_count-count.ensures.0)
-    _ c.in-At.is
+    answer_found _ a.bands x.p x.invariant c.loop-p-test.true _
+    (c.in-Some.ensures ∙ ap (λ (n : ℕ). band_wrong a.rule x.p (rows_of a.width n (drop (x.p * 1024) a.cells.now))) c.row_count-count.ensures.0)
 
 pub loop-p-preserved : goal.loop-p-preserved
 loop-p-preserved c =
     let x = c.loop-p in
-    let a = c.args in (
-      omega arith,
-      answer_none _ a.bands x.p x.invariant.1 _
-          (c.band_fault-found.ensures ∙ ap (λ (n : ℕ). band_wrong a.rule x.p (rows_of a.width n (drop (x.p * 1024) a.cells.now))) c.row_count-count.ensures.0)
-          c.in-Nothing.is,
-    )
+    let a = c.args in
+    answer_none _ a.bands x.p x.invariant
+    (c.in_default.ensures ∙ ap (λ (n : ℕ). band_wrong a.rule x.p (rows_of a.width n (drop (x.p * 1024) a.cells.now))) c.row_count-count.ensures.0)
 
 pub returns : goal.returns
 returns c =
     let x = c.loop-p in
-    all_done _ c.args.bands x.p x.invariant.1 x.invariant.0 c.loop-p-test.false
+    all_done _ c.args.bands x.p x.invariant (omega arith) c.loop-p-test.false

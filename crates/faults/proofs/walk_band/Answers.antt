@@ -16,11 +16,11 @@ fits : (c : In-loop-i) → c.loop-i.at + c.args.width ≤ length c.args.cells.no
 fits c =
     let x = c.loop-i in
     let a = c.args in
-    row_fits a.width a.rows a.from a.cells.now x.invariant.2 x.i x.at x.invariant.1 c.loop-i-test.true
+    row_fits a.width a.rows a.from a.cells.now x.invariant.1 x.i x.at x.invariant.0 c.loop-i-test.true
 
 pub loop-i-init : goal.loop-i-init
 unfolding first_found column_of
-loop-i-init c = (omega arith, omega arith, c.requires.0, c.requires.3, refl, refl)
+loop-i-init c = (omega arith, c.requires.0, c.requires.3, refl, refl)
 
 pub overflow_add-at : goal.overflow_add-at
 overflow_add-at c = omega (arith, fits c)
@@ -38,8 +38,8 @@ pub returns-then-not-meets : goal.returns-then-not-meets
 returns-then-not-meets c =
     let x = c.loop-i in
     let a = c.args in
-    stuck_here a.width a.rows a.from a.cells.now x.invariant.2 a.targets.now a.live a.column a.set a.band x.invariant.3 x.i x.at x.invariant.1
-    c.loop-i-test.true x.reached x.invariant.4 _ c.successor-reached.ensures x.invariant.5 _ c.meets.ensures (not_from_false _ c.if-not-meets.true) _
+    stuck_here a.width a.rows a.from a.cells.now x.invariant.1 a.targets.now a.live a.column a.set a.band x.invariant.2 x.i x.at x.invariant.0
+    c.loop-i-test.true x.reached x.invariant.3 _ c.successor-reached.ensures x.invariant.4 _ c.meets.ensures (not_from_false _ c.if-not-meets.true) _
 
 pub overflow_add-at-in-loop-i : goal.overflow_add-at-in-loop-i
 overflow_add-at-in-loop-i c = omega (arith, fits (goal.at.overflow_add-at-in-loop-i c).In-loop-i)
@@ -48,19 +48,18 @@ pub loop-i-preserved : goal.loop-i-preserved
 loop-i-preserved c =
     let x = c.loop-i in
     let a = c.args in (
-      omega arith,
-      row_next a.width a.rows a.from a.cells.now x.invariant.2 x.i x.at x.invariant.1,
+      row_next a.width a.rows a.from a.cells.now x.invariant.1 x.i x.at x.invariant.0,
+      x.invariant.1,
       x.invariant.2,
-      x.invariant.3,
-      set_next a.width a.rows a.from a.cells.now x.invariant.2 a.targets.now a.live a.column a.set a.band x.invariant.3 x.i x.at x.invariant.1
-          c.loop-i-test.true x.reached x.invariant.4 _ c.successor-reached.ensures,
-      on_here a.width a.rows a.from a.cells.now x.invariant.2 a.targets.now a.live a.column a.set a.band x.invariant.3 x.i x.at x.invariant.1
-          c.loop-i-test.true x.reached x.invariant.4 _ c.successor-reached.ensures x.invariant.5 _ c.meets.ensures (not_from_true _ c.if-not-meets.false),
+      set_next a.width a.rows a.from a.cells.now x.invariant.1 a.targets.now a.live a.column a.set a.band x.invariant.2 x.i x.at x.invariant.0
+          c.loop-i-test.true x.reached x.invariant.3 _ c.successor-reached.ensures,
+      on_here a.width a.rows a.from a.cells.now x.invariant.1 a.targets.now a.live a.column a.set a.band x.invariant.2 x.i x.at x.invariant.0
+          c.loop-i-test.true x.reached x.invariant.3 _ c.successor-reached.ensures x.invariant.4 _ c.meets.ensures (not_from_true _ c.if-not-meets.false),
     )
 
 pub returns : goal.returns
 returns c =
     let x = c.loop-i in
     let a = c.args in
-    all_on a.width a.rows a.from a.cells.now x.invariant.2 a.targets.now a.live a.column a.set a.band x.invariant.3 x.i x.reached x.invariant.0
-    c.loop-i-test.false x.invariant.5 x.invariant.4
+    all_on a.width a.rows a.from a.cells.now x.invariant.1 a.targets.now a.live a.column a.set a.band x.invariant.2 x.i x.reached (omega arith)
+    c.loop-i-test.false x.invariant.4 x.invariant.3

@@ -2,7 +2,6 @@
 -- was left with every row. Assumes nothing.
 use mathlib.Core.Path.{◌≡◌}
 use mathlib.Core.Option.{none}
-use Prim.Native.Nat.{◌-◌, ◌≤◌}
 use Rattle.automaton.specs.Successor.{after}
 use Rattle.trays.specs.Rows.{rows_up_to, column_of}
 use Rattle.trays.specs.Boards.{band_in}
@@ -12,8 +11,5 @@ use Rattle.faults.proofs.walk_column.Given as goal
 
 abbrev pub invariant-loop-p : goal.invariant-loop-p
 invariant-loop-p l =
-    (l.p ≤ l.bands) × (l.reached ≡ after l.targets l.initials (column_of l.column (rows_up_to (band_in l.width l.rows l.cells) l.p)))
+    (l.reached ≡ after l.targets l.initials (column_of l.column (rows_up_to (band_in l.width l.rows l.cells) l.p)))
     × (first_found (band_on l.targets l.live l.column l.initials (band_in l.width l.rows l.cells)) l.p ≡ none)
-
-abbrev pub decreases-loop-p : goal.decreases-loop-p
-decreases-loop-p l = l.bands - l.p

@@ -1,7 +1,6 @@
 -- `put_pairs` meets its contract. The loop's invariant: the bytes of the first i pairs are written.
 -- Assumes nothing.
 use mathlib.Core.Path.{◌≡◌, refl, sym, ap₂, ◌∙◌}
-use mathlib.Core.Bool.{true}
 use mathlib.Core.List.{[], ◌∷◌, ◌++◌}
 use Prim.Native.Nat.{ℕ, ◌+◌, ◌*◌}
 use native.Mathlib.Numerals.{add-one}
@@ -68,4 +67,4 @@ returns c =
     let l = c.loop-i in
     let a = c.args in
     let e : length a.out.now ≡ l.i = omega (arith, l.invariant) in
-    rw e l.invariant.4
+    rw (l.invariant.3, e) l.invariant.4

@@ -2,7 +2,7 @@
 -- Assumes nothing.
 use mathlib.Core.Path.{◌≡◌}
 use mathlib.Core.Bool.{true}
-use Prim.Native.Nat.{◌*◌, ◌-◌, ◌≤◌}
+use Prim.Native.Nat.{◌*◌, ◌≤◌}
 use lib.ListN.{length, take}
 use Rattle.text.specs.Writing.{Wrote}
 use Rattle.fields.specs.Bytes.{all_hex, pairs}
@@ -11,6 +11,3 @@ use Rattle.fields.proofs.put_pairs.Given as goal
 abbrev pub invariant-loop-i : goal.invariant-loop-i
 invariant-loop-i l =
     (2 * l.i ≤ length l.field) × (all_hex l.field ≡ true) × (l.i ≤ length l.initial.out) × (length l.out ≡ length l.initial.out) × Wrote l.initial.out 0 (take l.i (pairs l.field)) l.out l.i
-
-abbrev pub decreases-loop-i : goal.decreases-loop-i
-decreases-loop-i l = length l.initial.out - l.i

@@ -7,8 +7,8 @@ use Rattle.fields.specs.Numbers.{parse_number}
 use Rattle.fields.proofs.Digits.{said_from}
 use Rattle.fields.proofs.read_number.Given as goal
 
-abbrev pub invariant-loop-i : goal.invariant-loop-i
-invariant-loop-i l = (l.i ≤ length l.field) × (l.value ≤ 18446744073709551615) × (parse_number l.field ≡ said_from l.value (drop l.i l.field))
+abbrev pub invariant-loop-c : goal.invariant-loop-c
+invariant-loop-c l = (l.c-index ≤ length l.field) × (l.value ≤ 18446744073709551615) × (parse_number l.field ≡ said_from l.value (drop l.c-index l.field))
 
-abbrev pub decreases-loop-i : goal.decreases-loop-i
-decreases-loop-i l = length l.field - l.i
+abbrev pub decreases-loop-c : goal.decreases-loop-c
+decreases-loop-c l = length l.field - l.c-index

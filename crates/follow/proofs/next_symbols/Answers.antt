@@ -11,7 +11,7 @@ use Rattle.follow.proofs.next_symbols.Goals as goal
 
 pub loop-s-init : goal.loop-s-init
 unfolding mask_of
-loop-s-init c = (c.at_most_u8-most.ensures, omega arith, refl)
+loop-s-init c = refl
 
 pub loop-s-preserved : goal.loop-s-preserved
 loop-s-preserved c =
@@ -19,18 +19,15 @@ loop-s-preserved c =
     let a = c.args in
     let test : ℕ → Bool = λ x. shares (successor a.targets.now a.set x) a.live in
     let is : c.meets.result ≡ test l.s =
-    c.meets.ensures ∙ ap (λ (x : ℕ). shares x a.live) c.successor-reached.ensures in (
-      l.invariant.0,
-      omega arith,
-      (elim c.if-meets.branch [
-        | then-meets x ↦ x.mask-is ∙ ap (bit_or l.mask) x.only_symbol-mask.ensures ∙ mask_add test l.s l.mask l.invariant.2 (sym is ∙ x.if-meets.true)
-        | else-meets x ↦ x.mask-is ∙ mask_skip test l.s l.mask l.invariant.2 (sym is ∙ x.if-meets.false)
-      ]),
-    )
+    c.meets.ensures ∙ ap (λ (x : ℕ). shares x a.live) c.successor-reached.ensures in
+    (elim c.if-meets.branch [
+      | then-meets x ↦ x.mask-is ∙ ap (bit_or l.mask) x.only_symbol-mask.ensures ∙ mask_add test l.s l.mask l.invariant (sym is ∙ x.if-meets.true)
+      | else-meets x ↦ x.mask-is ∙ mask_skip test l.s l.mask l.invariant (sym is ∙ x.if-meets.false)
+    ])
 
 pub returns : goal.returns
 returns c =
     let l = c.loop-s in
     let a = c.args in
-    let q : l.s ≡ min a.k 16 = omega (arith, l.invariant.0) in
-    l.invariant.2 ∙ ap (λ (x : ℕ). next_by a.targets.now a.live x a.set) q ∙ no_more a.targets.now a.live a.set a.k
+    let q : l.s ≡ min a.k 16 = omega arith in
+    l.invariant ∙ ap (λ (x : ℕ). next_by a.targets.now a.live x a.set) q ∙ no_more a.targets.now a.live a.set a.k

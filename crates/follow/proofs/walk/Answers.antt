@@ -40,31 +40,31 @@ overflow_cast-at c =
     let x = c.loop-from in
     omega (arith, x.invariant.0.most, c.requires)
 
-pub loop-i-init : goal.loop-i-init
-loop-i-init c = let x = c.loop-from in (x.invariant.0.most, x.invariant.0.here, x.invariant.1, x.invariant.2)
+pub loop-j-init : goal.loop-j-init
+loop-j-init c = let x = c.loop-from in (x.invariant.0.most, x.invariant.0.here, x.invariant.1, x.invariant.2)
 
 pub returns-then-here-eq0 : goal.returns-then-here-eq0
 returns-then-here-eq0 c =
     let x = c.loop-from in
-    let l = c.loop-i in
+    let l = c.loop-j in
     let a = c.args in
     lost_here a.targets.now a.live a.set a.chunk.now x.before x.here.set x.i x.invariant.0
     (sym c.meets.ensures ∙ c.loop-from-test.false)
     0
-    (empty_rest a.targets.now a.set a.chunk.now l.i (sym l.invariant.1 ∙ c.if-here-eq0.true))
+    (empty_rest a.targets.now a.set a.chunk.now l.j (sym l.invariant.1 ∙ c.if-here-eq0.true))
 
-pub step-here-requires-in-loop-i : goal.step-here-requires-in-loop-i
-step-here-requires-in-loop-i c = let x = c.loop-i in (x.invariant.2, x.invariant.3)
+pub step-here-requires-in-loop-j : goal.step-here-requires-in-loop-j
+step-here-requires-in-loop-j c = let x = c.loop-j in (x.invariant.2, x.invariant.3)
 
-pub loop-i-preserved : goal.loop-i-preserved
-loop-i-preserved c =
-    let x = c.loop-i in
+pub loop-j-preserved : goal.loop-j-preserved
+loop-j-preserved c =
+    let x = c.loop-j in
     let a = c.args in
-    let l = c.step-here-in-loop-i.ensures in (
+    let l = c.step-here-in-loop-j.ensures in (
       omega arith,
       l.set
-          ∙ ap (λ (y : ℕ). set_after a.targets.now y (get_or a.chunk.now x.i 0 ∷ [])) x.invariant.1
-          ∙ sym (after_next a.targets.now a.set a.chunk.now x.i (omega arith)),
+          ∙ ap (λ (y : ℕ). set_after a.targets.now y (get_or a.chunk.now x.j 0 ∷ [])) x.invariant.1
+          ∙ sym (after_next a.targets.now a.set a.chunk.now x.j (omega arith)),
       l.cached,
       l.row,
     )
@@ -72,9 +72,9 @@ loop-i-preserved c =
 pub returns : goal.returns
 returns c =
     let x = c.loop-from in
-    let l = c.loop-i in
+    let l = c.loop-j in
     let a = c.args in
     lost_here a.targets.now a.live a.set a.chunk.now x.before x.here.set x.i x.invariant.0
     (sym c.meets.ensures ∙ c.loop-from-test.false)
     l.here.set
-    (l.invariant.1 ∙ ap (set_after a.targets.now a.set) (take_all l.i a.chunk.now (omega arith)))
+    (l.invariant.1 ∙ ap (set_after a.targets.now a.set) (take_all l.j a.chunk.now (omega arith)))

@@ -14,9 +14,6 @@ invariant-loop-from l =
 abbrev pub decreases-loop-from : goal.decreases-loop-from
 decreases-loop-from l = length l.chunk - l.i
 
-abbrev pub invariant-loop-i : goal.invariant-loop-i
-invariant-loop-i l =
-    (l.i ≤ length l.chunk) × (l.here.set ≡ set_after l.targets l.set (take l.i l.chunk)) × Cached l.targets l.from l.to l.rows × (l.here.row < 61)
-
-abbrev pub decreases-loop-i : goal.decreases-loop-i
-decreases-loop-i l = length l.chunk - l.i
+abbrev pub invariant-loop-j : goal.invariant-loop-j
+invariant-loop-j l =
+    (l.j ≤ length l.chunk) × (l.here.set ≡ set_after l.targets l.set (take l.j l.chunk)) × Cached l.targets l.from l.to l.rows × (l.here.row < 61)

@@ -1,10 +1,9 @@
 -- `begin` meets its contract. Assumes nothing.
 use Rattle.followcalls.proofs.Ways.{begin_refused, begin_taken}
-use borrow.Author.Rules.{rules}
 use Rattle.followcalls.proofs.begin.Goals as goal
 
-pub returns-in-Refused : goal.returns-in-Refused
-returns-in-Refused c = search (rules, begin_refused)
+pub returns-in-Err : goal.returns-in-Err
+returns-in-Err c = begin_refused c.args.state c.args.file.now _ c.in-Err.ensures
 
-pub returns-in-Accepted : goal.returns-in-Accepted
-returns-in-Accepted c = search (rules, begin_taken)
+pub returns-in-Ok : goal.returns-in-Ok
+returns-in-Ok c = begin_taken c.args.state c.args.file.now _ c.in-Ok.ensures

@@ -6,8 +6,8 @@ use Rattle.followcalls.proofs.next.Goals as goal
 pub returns-then-follower-eq0 : goal.returns-then-follower-eq0
 returns-then-follower-eq0 c = search (rules, next_lacks)
 
-pub returns-in-Refused : goal.returns-in-Refused
-returns-in-Refused c = search (rules, next_refused)
+pub returns-in-Err : goal.returns-in-Err
+returns-in-Err c = search (rules, next_refused)
 
-pub returns-in-Accepted : goal.returns-in-Accepted
-returns-in-Accepted c = search (rules, next_taken)
+pub returns-in-Ok : goal.returns-in-Ok
+returns-in-Ok c = search (rules, next_taken)

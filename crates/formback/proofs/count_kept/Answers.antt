@@ -11,23 +11,23 @@ use Rattle.formback.proofs.count_kept.Goals as goal
 
 pub loop-c-init : goal.loop-c-init
 unfolding total
-loop-c-init c = (omega arith, omega arith, refl)
+loop-c-init c = (omega arith, refl)
 
 pub loop-c-preserved : goal.loop-c-preserved
 loop-c-preserved c =
     let l = c.loop-c in
     let a = c.args in
     let e = c.has_symbol in
-    let r = count_on (kept_at a.kept.now) l.c l.n c.if-has_symbol.n e.result e.ensures l.invariant.1 l.invariant.2
+    let r = count_on (kept_at a.kept.now) l.c l.n c.if-has_symbol.n e.result e.ensures l.invariant.0 l.invariant.1
     ((elim c.if-has_symbol.branch [
       | then-has_symbol x ↦ inl (x.if-has_symbol.true, x.n-is)
       | else-has_symbol x ↦ inr (x.if-has_symbol.false, x.n-is)
     ])) in
-    (omega arith, r.0, r.1)
+    (r.0, r.1)
 
 pub returns : goal.returns
 returns c =
     let l = c.loop-c in
     let a = c.args in
     let q : l.c ≡ a.sets * 16 = omega arith in
-    (omega arith, l.invariant.2 ∙ ap (how_many (kept_at a.kept.now)) q)
+    (omega arith, l.invariant.1 ∙ ap (how_many (kept_at a.kept.now)) q)

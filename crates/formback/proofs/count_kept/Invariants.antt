@@ -1,11 +1,8 @@
 -- `count_kept` meets its contract. Assumes nothing.
 use mathlib.Core.Path.{◌≡◌}
-use Prim.Native.Nat.{◌≤◌, ◌-◌, ◌*◌}
+use Prim.Native.Nat.{◌≤◌}
 use Rattle.forms.specs.Form.{how_many, kept_at}
 use Rattle.formback.proofs.count_kept.Given as goal
 
 abbrev pub invariant-loop-c : goal.invariant-loop-c
-invariant-loop-c l = (l.c ≤ l.sets * 16) × (l.n ≤ l.c) × (l.n ≡ how_many (kept_at l.kept) l.c)
-
-abbrev pub decreases-loop-c : goal.decreases-loop-c
-decreases-loop-c l = l.sets * 16 - l.c
+invariant-loop-c l = (l.n ≤ l.c) × (l.n ≡ how_many (kept_at l.kept) l.c)

@@ -20,12 +20,17 @@ loop-c-init c =
     let a = c.args in
     let f = form_by a.sets a.k a.failure.now a.kept.now a.cells.now in (
       (parts f c.requires.0).sets,
-      omega arith,
       refl,
       omega arith,
       ap length c.requires.1 ∙ length-replicate {A = ℕ} 8192 512,
       filled_none 8192 512 (back_cell f) a.next.now c.requires.1,
     )
+
+pub overflow_mul-c-end : goal.overflow_mul-c-end
+overflow_mul-c-end c =
+    let a = c.args in
+    let few = (parts (form_by a.sets a.k a.failure.now a.kept.now a.cells.now) c.requires.0).sets in
+    omega arith
 
 pub inherited-requires : goal.inherited-requires
 inherited-requires c =
@@ -46,15 +51,15 @@ loop-c-preserved c =
     let a = c.args in
     let e = c.has_symbol in
     let r = row_more (form_by a.sets a.k a.failure.now a.kept.now a.cells.now) c.requires.0 l.c l.at c.if-has_symbol.at
-    l.next c.if-has_symbol.next e.result (omega arith) e.ensures l.invariant.2 l.invariant.3 l.invariant.4 l.invariant.5
+    l.next c.if-has_symbol.next e.result (omega arith) e.ensures l.invariant.1 l.invariant.2 l.invariant.3 l.invariant.4
     ((elim c.if-has_symbol.branch [
       | then-has_symbol x ↦ inl (x.if-has_symbol.true, x.next-is, x.at-is)
       | else-has_symbol x ↦ inr (x.if-has_symbol.false, (x.inherited.result, x.inherited.ensures, x.next-is), x.at-is)
     ])) in
-    (omega arith, omega arith, r.0, r.1, r.2, r.3)
+    (omega arith, r.0, r.1, r.2, r.3)
 
 pub returns : goal.returns
 returns c =
     let l = c.loop-c in
     let a = c.args in
-    all_filled (form_by a.sets a.k a.failure.now a.kept.now a.cells.now) l.next l.c (omega arith) l.invariant.4 l.invariant.5
+    all_filled (form_by a.sets a.k a.failure.now a.kept.now a.cells.now) l.next l.c (omega arith) l.invariant.3 l.invariant.4

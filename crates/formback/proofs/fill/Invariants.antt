@@ -1,7 +1,7 @@
 -- `fill` meets its contract. The loop's invariant: the cells passed are those of the table, and as
 -- many packed cells were taken as are kept among them. Assumes nothing.
 use mathlib.Core.Path.{◌≡◌}
-use Prim.Native.Nat.{◌*◌, ◌-◌, ◌≤◌}
+use Prim.Native.Nat.{◌≤◌}
 use lib.ListN.{length}
 use Rattle.forms.specs.Form.{how_many, kept_at}
 use Rattle.forms.specs.Back.{back_cell}
@@ -11,8 +11,5 @@ use Rattle.formback.proofs.fill.Given as goal
 
 abbrev pub invariant-loop-c : goal.invariant-loop-c
 invariant-loop-c l =
-    (l.sets ≤ 512) × (l.c ≤ l.sets * 16) × (l.at ≡ how_many (kept_at l.kept) l.c) × (l.at ≤ l.c) × (length l.next ≡ 8192)
+    (l.sets ≤ 512) × (l.at ≡ how_many (kept_at l.kept) l.c) × (l.at ≤ l.c) × (length l.next ≡ 8192)
     × Filled 8192 512 (back_cell (form_by l.sets l.k l.failure l.kept l.cells)) l.c l.next
-
-abbrev pub decreases-loop-c : goal.decreases-loop-c
-decreases-loop-c l = l.sets * 16 - l.c

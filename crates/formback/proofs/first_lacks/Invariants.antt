@@ -1,6 +1,5 @@
 -- `first_lacks` meets its contract. The loop's invariant: no symbol passed is left out. Assumes nothing.
 use mathlib.Core.Bool.{not}
-use Prim.Native.Nat.{◌-◌}
 use lib.ListN.{get_or}
 use Rattle.masks.specs.Masks.{has}
 use Rattle.formback.proofs.Turns.{Passed}
@@ -8,6 +7,3 @@ use Rattle.formback.proofs.first_lacks.Given as goal
 
 abbrev pub invariant-loop-s : goal.invariant-loop-s
 invariant-loop-s l = Passed (λ j. not (has (get_or l.kept 0 0) j)) l.k l.s
-
-abbrev pub decreases-loop-s : goal.decreases-loop-s
-decreases-loop-s l = l.k - l.s

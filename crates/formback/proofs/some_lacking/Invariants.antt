@@ -1,5 +1,4 @@
 -- `some_lacking` meets its contract. The loop's invariant: no cell passed names such a set. Assumes nothing.
-use Prim.Native.Nat.{◌-◌}
 use lib.ListN.{get_or}
 use Rattle.forms.specs.Back.{lacking}
 use Rattle.formback.proofs.Turns.{Passed}
@@ -7,6 +6,3 @@ use Rattle.formback.proofs.some_lacking.Given as goal
 
 abbrev pub invariant-loop-i : goal.invariant-loop-i
 invariant-loop-i l = Passed (λ j. lacking l.sets (get_or l.cells j 0)) l.count l.i
-
-abbrev pub decreases-loop-i : goal.decreases-loop-i
-decreases-loop-i l = l.count - l.i

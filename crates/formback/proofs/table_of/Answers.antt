@@ -1,14 +1,14 @@
 -- `table_of` meets its contract. Assumes nothing.
-use mathlib.Core.Path.{refl}
+use mathlib.Core.Path.{refl, sym}
 use borrow.Author.Rules.{rules}
-use Rattle.formback.proofs.Ways.{none_there, accepted, refused}
+use Rattle.formback.proofs.Ways.{accepted, refused}
 use Rattle.formback.proofs.table_of.Goals as goal
 
 pub fill-requires : goal.fill-requires
-fill-requires c = (search (rules, none_there), refl)
+fill-requires c = (sym c.in_ok-check.ensures, refl)
 
-pub returns-in-Accepted : goal.returns-in-Accepted
-returns-in-Accepted c = search (rules, accepted)
+pub returns : goal.returns
+returns c = accepted c.args.form c.in_ok-check.ensures _ c.fill.ensures
 
-pub returns-in-Refused : goal.returns-in-Refused
-returns-in-Refused c = refused c.args.form c.check-checked.result c.check-checked.ensures c.in-Refused.number c.in-Refused.is _ c.no_table-table.ensures
+pub returns-in_err-check : goal.returns-in_err-check
+returns-in_err-check c = let e = refused c.args.form _ c.in_err-check.ensures in search (rules, e)

@@ -3,8 +3,9 @@ use mathlib.Core.Path.{sym, ap, ◌∙◌}
 use mathlib.Core.List.{List}
 use Prim.Native.Nat.{ℕ}
 use native.Mathlib.Omega.{arith}
+use borrow.Author.Rules.{rules}
 use lib.Seq.{length-take-le}
-use Rattle.fields.specs.Numbers.{parse_number, number_means}
+use Rattle.fields.specs.Numbers.{parse_number}
 use Rattle.formline.specs.Lines.{symbols_in, failure_in, held_of}
 use Rattle.formline.proofs.Fields.{to_the_end, alone, unsaid, goes_on}
 use Rattle.formline.proofs.with_sets.Goals as goal
@@ -14,25 +15,22 @@ unfolding symbols_in
 returns-then-rest-space c =
     let a = c.args in
     let f = c.find-space in
-    alone parse_number (failure_in a.sets) a.rest.now f.result f.ensures c.if-rest-space.true c.without.result c.without.ensures
+    alone parse_number (failure_in a.sets) a.rest.now f.result f.ensures c.if-rest-space.true
 
 pub slice_bounds-read_number-end : goal.slice_bounds-read_number-end
 slice_bounds-read_number-end c = sym (length-take-le _ c.args.rest.now (omega arith))
 
-pub returns-in-Value : goal.returns-in-Value
+pub returns : goal.returns
 unfolding symbols_in
-returns-in-Value c =
+returns c =
     let a = c.args in
     let f = c.find-space in
-    let r = c.read_number-read in
-    goes_on parse_number (failure_in a.sets) a.rest.now f.result f.ensures (omega arith) _ c.in-Value.n r.ensures (ap number_means c.in-Value.is) _
-    (c.with_symbols.ensures ∙ ap (λ (l : List ℕ). held_of (failure_in a.sets c.in-Value.n l)) (to_the_end a.rest.now f.result))
+    goes_on parse_number (failure_in a.sets) a.rest.now f.result f.ensures (omega arith) _ c.in_ok-symbols.ensures _
+    (c.with_symbols.ensures ∙ ap (λ (l : List ℕ). held_of (failure_in a.sets c.in_ok-symbols.symbols l)) (to_the_end a.rest.now f.result))
 
-pub returns-in-Malformed : goal.returns-in-Malformed
+pub returns-in_err-symbols : goal.returns-in_err-symbols
 unfolding symbols_in
-returns-in-Malformed c =
+returns-in_err-symbols c =
     let a = c.args in
     let f = c.find-space in
-    let r = c.read_number-read in
-    unsaid parse_number (failure_in a.sets) a.rest.now f.result f.ensures (omega arith) _ r.ensures (ap number_means c.in-Malformed.is)
-    c.without-in-Malformed.result c.without-in-Malformed.ensures
+    let e = unsaid parse_number (failure_in a.sets) a.rest.now f.result f.ensures (omega arith) c.in_err-symbols.ensures in search (rules, e)

@@ -15,7 +15,6 @@ loop-t-init c =
     let a = c.args in
     let e = c.requires.2 in
     let d = c.requires.3 in (
-      omega arith,
       ap length e ∙ length-replicate {A = ℕ} 512 0,
       ap length d ∙ length-replicate {A = ℕ} 512 0,
       filled_none 512 0 (failure_of a.next.now a.k) a.failure.now e,
@@ -28,11 +27,10 @@ loop-t-preserved c =
     let a = c.args in
     let f = c.failure_of-f in
     let m = c.kept_mask-mask in (
-      omega arith,
-      length-set l.failure l.t f.result ∙ l.invariant.1,
-      length-set l.kept l.t m.result ∙ l.invariant.2,
-      fill_more 512 0 (failure_of a.next.now a.k) l.t f.result l.failure f.ensures.1 (omega arith) l.invariant.3,
-      fill_more 512 0 (kept_mask a.next.now a.k) l.t m.result l.kept m.ensures (omega arith) l.invariant.4,
+      length-set l.failure l.t f.result ∙ l.invariant.0,
+      length-set l.kept l.t m.result ∙ l.invariant.1,
+      fill_more 512 0 (failure_of a.next.now a.k) l.t f.result l.failure f.ensures.1 (omega arith) l.invariant.2,
+      fill_more 512 0 (kept_mask a.next.now a.k) l.t m.result l.kept m.ensures (omega arith) l.invariant.3,
     )
 
 pub returns : goal.returns
@@ -40,8 +38,8 @@ returns c =
     let l = c.loop-t in
     let a = c.args in
     let q : l.t ≡ a.sets = omega arith in (
-      is_list_from l.failure 512 (λ i. cond (ltb i a.sets) (failure_of a.next.now a.k i) 0) l.invariant.1
-          (λ i b. l.invariant.3 i b ∙ ap (λ (n : ℕ). cond (ltb i n) (failure_of a.next.now a.k i) 0) q),
-      is_list_from l.kept 512 (λ i. cond (ltb i a.sets) (kept_mask a.next.now a.k i) 0) l.invariant.2
-          (λ i b. l.invariant.4 i b ∙ ap (λ (n : ℕ). cond (ltb i n) (kept_mask a.next.now a.k i) 0) q),
+      is_list_from l.failure 512 (λ i. cond (ltb i a.sets) (failure_of a.next.now a.k i) 0) l.invariant.0
+          (λ i b. l.invariant.2 i b ∙ ap (λ (n : ℕ). cond (ltb i n) (failure_of a.next.now a.k i) 0) q),
+      is_list_from l.kept 512 (λ i. cond (ltb i a.sets) (kept_mask a.next.now a.k i) 0) l.invariant.1
+          (λ i b. l.invariant.3 i b ∙ ap (λ (n : ℕ). cond (ltb i n) (kept_mask a.next.now a.k i) 0) q),
     )

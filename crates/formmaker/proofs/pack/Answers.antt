@@ -16,7 +16,6 @@ unfolding total
 loop-c-init c =
     let a = c.args in
     let e = c.requires.1 in (
-      omega arith,
       refl,
       omega arith,
       ap length e ∙ length-replicate {A = ℕ} 8192 0,
@@ -29,17 +28,17 @@ loop-c-preserved c =
     let a = c.args in
     let e = c.has_symbol in
     let r = pack_more (kept_at a.kept.now) (λ j. get_or a.next.now j 0) l.c l.at c.if-has_symbol.at l.cells c.if-has_symbol.cells e.result e.ensures
-    l.invariant.1 l.invariant.2 (omega arith) l.invariant.3 l.invariant.4
+    l.invariant.0 l.invariant.1 (omega arith) l.invariant.2 l.invariant.3
     ((elim c.if-has_symbol.branch [
       | then-has_symbol x ↦ inl (x.if-has_symbol.true, x.cells-is, x.at-is)
       | else-has_symbol x ↦ inr (x.if-has_symbol.false, x.cells-is, x.at-is)
     ])) in
-    (omega arith, r.0, r.1, r.2, r.3)
+    (r.0, r.1, r.2, r.3)
 
 pub returns : goal.returns
 returns c =
     let l = c.loop-c in
     let a = c.args in
     let q : l.c ≡ a.sets * 16 = omega arith in
-    is_list_from l.cells 8192 (λ i. get_or (picked (kept_at a.kept.now) (λ j. get_or a.next.now j 0) (a.sets * 16)) i 0) l.invariant.3
-    (λ i b. l.invariant.4 i b ∙ ap (λ (n : ℕ). get_or (picked (kept_at a.kept.now) (λ j. get_or a.next.now j 0) n) i 0) q)
+    is_list_from l.cells 8192 (λ i. get_or (picked (kept_at a.kept.now) (λ j. get_or a.next.now j 0) (a.sets * 16)) i 0) l.invariant.2
+    (λ i b. l.invariant.3 i b ∙ ap (λ (n : ℕ). get_or (picked (kept_at a.kept.now) (λ j. get_or a.next.now j 0) n) i 0) q)

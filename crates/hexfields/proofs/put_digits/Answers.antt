@@ -11,45 +11,42 @@ use Rattle.fields.specs.Claims.{digits_of}
 use Rattle.hexfields.proofs.Digits.{digits_length, digits_none, digits_more}
 use Rattle.hexfields.proofs.put_digits.Goals as goal
 
-pub loop-i-init : goal.loop-i-init
-loop-i-init c =
+pub loop-byte-init : goal.loop-byte-init
+loop-byte-init c =
     let a = c.args in (
       omega arith,
       c.requires,
       rw (digits_none a.bytes.now) (record { wrote = wrote_none a.out.now a.at; fits = omega (arith, c.requires); kept = refl }),
     )
 
-pub overflow_cast-bytes : goal.overflow_cast-bytes
-overflow_cast-bytes c = omega (arith, c.shared_slice_known-in-loop-i-1.given c.loop-i.i)
-
 pub put_hex-end-requires : goal.put_hex-end-requires
 put_hex-end-requires c =
-    let x = c.loop-i in
+    let x = c.loop-byte in
     let a = c.args in
-    let done : length (digits_of (take x.i a.bytes.now)) ≡ 2 * x.i =
-    digits_length (take x.i a.bytes.now) ∙ ap (λ n. 2 * n) (length-take-le x.i a.bytes.now x.invariant.0) in
+    let done : length (digits_of (take x.byte-index a.bytes.now)) ≡ 2 * x.byte-index =
+    digits_length (take x.byte-index a.bytes.now) ∙ ap (λ n. 2 * n) (length-take-le x.byte-index a.bytes.now x.invariant.0) in
     omega (arith, x.invariant.0, x.invariant.1, x.invariant.2.wrote.ends, x.invariant.2.kept)
 
-pub loop-i-preserved : goal.loop-i-preserved
-loop-i-preserved c =
-    let x = c.loop-i in
+pub loop-byte-preserved : goal.loop-byte-preserved
+loop-byte-preserved c =
+    let x = c.loop-byte in
     let a = c.args in
-    let b = get_or a.bytes.now x.i 0 in
-    let done : length (digits_of (take x.i a.bytes.now)) ≡ 2 * x.i =
-    digits_length (take x.i a.bytes.now) ∙ ap (λ n. 2 * n) (length-take-le x.i a.bytes.now x.invariant.0) in
+    let b = get_or a.bytes.now x.byte-index 0 in
+    let done : length (digits_of (take x.byte-index a.bytes.now)) ≡ 2 * x.byte-index =
+    digits_length (take x.byte-index a.bytes.now) ∙ ap (λ n. 2 * n) (length-take-le x.byte-index a.bytes.now x.invariant.0) in
     let two = hex_length 2 b in
     let new = put (omega (arith, x.invariant.1, x.invariant.2.wrote.ends, x.invariant.2.kept, two)) c.put_hex-end.ensures in (
       omega arith,
       x.invariant.1,
-      rw (digits_more a.bytes.now x.i (omega arith)) (x.invariant.2 then new),
+      rw (digits_more a.bytes.now x.byte-index (omega arith)) (x.invariant.2 then new),
     )
 
 pub shape_of-out : goal.shape_of-out
-shape_of-out c = c.loop-i.invariant.2.kept
+shape_of-out c = c.loop-byte.invariant.2.kept
 
 pub returns : goal.returns
 returns c =
-    let x = c.loop-i in
+    let x = c.loop-byte in
     let a = c.args in
-    let all : take x.i a.bytes.now ≡ a.bytes.now = take_all x.i a.bytes.now (omega (arith, c.loop-i-test.false)) in
+    let all : take x.byte-index a.bytes.now ≡ a.bytes.now = take_all x.byte-index a.bytes.now (omega (arith, c.loop-byte-test.false)) in
     rw all at x.invariant.2.wrote

@@ -7,20 +7,18 @@ use Rattle.joins.proofs.join_places.Goals as goal
 
 pub loop-place-init : goal.loop-place-init
 unfolding join_of
-loop-place-init c = (omega arith, refl)
+loop-place-init c = refl
 
 pub loop-place-preserved : goal.loop-place-preserved
 loop-place-preserved c =
     let x = c.loop-place in
-    let s = c.at_most_u8-states in
-    let a = c.args in (
-      omega arith,
-      place_more a.ends.now a.delegates.now a.n a.initials x.place s.result x.set c.join_place-set.result s.ensures x.invariant.1
-          c.join_place-set.ensures,
-    )
+    let s = c.min-states in
+    let a = c.args in
+    place_more a.ends.now a.delegates.now a.n a.initials x.place s.result x.set c.join_place-set.result s.ensures x.invariant
+    c.join_place-set.ensures
 
 pub returns : goal.returns
 returns c =
     let x = c.loop-place in
     let e : x.place ≡ c.args.places = omega arith in
-    rw (← e) x.invariant.1
+    rw (← e) x.invariant

@@ -18,11 +18,11 @@ returns-then-places_of-place c = search (rules, deliver_11)
 pub returns-then-chunk-gt-CHUNK : goal.returns-then-chunk-gt-CHUNK
 returns-then-chunk-gt-CHUNK c = search (rules, deliver_12)
 
-pub returns-in-Refused : goal.returns-in-Refused
-returns-in-Refused c =
+pub returns-in-Err : goal.returns-in-Err
+returns-in-Err c =
     refused_attempt _ _ _ _ c.if-judge-eq0.false _ c.places_of.ensures c.if-places_of-place.false c.if-chunk-gt-CHUNK.false
-    _ c.run_mask-mask.ensures _ c.comes_late-late.ensures _ c.run_delivery-attempt.ensures
-    _ c.in-Refused.is _ c.refuse_delivery-in-Refused.ensures
+    _ c.run_mask-mask.ensures _ c.comes_late-late.ensures _ c.run_delivery-ran.ensures
+    _ c.in-Err.is _ c.refuse_delivery-in-Err.ensures
 
 pub set_revision-requires : goal.set_revision-requires
 set_revision-requires c =
@@ -35,6 +35,6 @@ set_row-requires c =
 pub returns : goal.returns
 returns c =
     kept_attempt _ _ _ _ c.if-judge-eq0.false _ c.places_of.ensures c.if-places_of-place.false c.if-chunk-gt-CHUNK.false
-    _ c.run_mask-mask.ensures _ c.comes_late-late.ensures _ c.run_delivery-attempt.ensures
-    _ c.in_default.is _ c.set_mark.ensures _ c.set_number.ensures _ c.set_number-2.ensures
+    _ c.run_mask-mask.ensures _ c.comes_late-late.ensures _ c.run_delivery-ran.ensures
+    _ c.in-Ok.is _ c.set_number.ensures _ c.set_number-2.ensures _ c.set_number-3.ensures
     _ c.set_revision.ensures _ c.set_row.ensures

@@ -3,11 +3,11 @@ use Rattle.calls.proofs.Ways.{install_unchecked, install_unbuilt, installed}
 use borrow.Author.Rules.{rules}
 use Rattle.judge.proofs.install.Goals as goal
 
-pub returns-in-Refused : goal.returns-in-Refused
-returns-in-Refused c = search (rules, install_unchecked)
+pub returns-in-Err : goal.returns-in-Err
+returns-in-Err c = search (rules, install_unchecked)
 
-pub returns-in-Refused-answer : goal.returns-in-Refused-answer
-returns-in-Refused-answer c = search (rules, install_unbuilt)
+pub returns-in-Err-build_rule : goal.returns-in-Err-build_rule
+returns-in-Err-build_rule c = search (rules, install_unbuilt)
 
-pub returns-in-Accepted-answer : goal.returns-in-Accepted-answer
-returns-in-Accepted-answer c = search (rules, installed)
+pub returns-in-Ok : goal.returns-in-Ok
+returns-in-Ok c = search (rules, installed)

@@ -13,16 +13,17 @@ pub expand-requires : goal.expand-requires
 expand-requires c =
     let a = c.args in
     let w = c.number in
-    record { from_le_most_sets = seed_asked (walk_in a.kind a.omit a.targets.now a.others.now a.k) (free_by a.omit) a.keys.now a.next.now a.count a.key c.requires.count_le_most_sets.0 c.requires.count_le_most_sets.2 c.requires.count_le_most_sets.1 (turn_means w.result) w.new.keys w.ensures c.in-As.field-0.0 c.in-As.after (ap turn_means c.in-As.is); in_row = c.requires.in_row }
+    record { from_le_most_sets = seed_asked (walk_in a.kind a.omit a.targets.now a.others.now a.k) (free_by a.omit) a.keys.now a.next.now a.count a.key c.requires.count_le_most_sets.0 c.requires.count_le_most_sets.2 c.requires.count_le_most_sets.1 (turn_means w.result) w.new.keys w.ensures _ c.in_ok-after.after (ap turn_means c.in_ok-after.was); in_row = c.requires.in_row }
 
-pub returns-in-As : goal.returns-in-As
-returns-in-As c =
+pub returns : goal.returns
+returns c =
     let a = c.args in
     let w = c.number in
-    seed_added (walk_in a.kind a.omit a.targets.now a.others.now a.k) (free_by a.omit) a.keys.now a.next.now a.count a.key c.requires.count_le_most_sets.0 c.requires.count_le_most_sets.2 c.requires.count_le_most_sets.1 (turn_means w.result) w.new.keys w.ensures c.in-As.field-0.0 c.in-As.after (ap turn_means c.in-As.is) c.expand.ensures
+    seed_added (walk_in a.kind a.omit a.targets.now a.others.now a.k) (free_by a.omit) a.keys.now a.next.now a.count a.key c.requires.count_le_most_sets.0 c.requires.count_le_most_sets.2 c.requires.count_le_most_sets.1 (turn_means w.result) w.new.keys w.ensures _ c.in_ok-after.after (ap turn_means c.in_ok-after.was) c.expand.ensures
 
-pub returns-in-Full : goal.returns-in-Full
-returns-in-Full c =
+pub returns-in_err-after : goal.returns-in_err-after
+returns-in_err-after c =
     let a = c.args in
     let w = c.number in
-    seed_over (walk_in a.kind a.omit a.targets.now a.others.now a.k) (free_by a.omit) a.keys.now a.next.now a.count a.key c.requires.count_le_most_sets.0 c.requires.count_le_most_sets.2 c.requires.count_le_most_sets.1 (turn_means w.result) w.new.keys w.ensures a.next.now (ap turn_means c.in-Full.is)
+    rw c.from_residual.ensures
+    (seed_over (walk_in a.kind a.omit a.targets.now a.others.now a.k) (free_by a.omit) a.keys.now a.next.now a.count a.key c.requires.count_le_most_sets.0 c.requires.count_le_most_sets.2 c.requires.count_le_most_sets.1 (turn_means w.result) w.new.keys w.ensures a.next.now (ap turn_means c.in_err-after.was))

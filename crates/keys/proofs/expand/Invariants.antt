@@ -19,9 +19,6 @@ invariant-loop-symbol l =
     (l.count ≤ 512) × (l.i < l.count) × (l.symbol ≤ l.k) × ArraysHold w (free_by l.omit) (take l.count l.keys) (l.i * 16 + min l.symbol 16) l.keys l.next
     × (expanded w l.i 0 (take l.initial.count l.initial.keys) ≡ expanded w l.i l.symbol (take l.count l.keys))
 
-abbrev pub decreases-loop-symbol : goal.decreases-loop-symbol
-decreases-loop-symbol l = l.k - l.symbol
-
 abbrev pub invariant-expand : goal.invariant-expand
 invariant-expand l =
     let w = walk_in l.kind l.omit l.targets l.others l.k in

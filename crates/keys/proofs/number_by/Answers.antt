@@ -9,11 +9,11 @@ use Rattle.keys.specs.Kinds.{walk_by}
 use Rattle.keys.proofs.Tables.{table_by_lem}
 use Rattle.keys.proofs.number_by.Goals as goal
 
-pub add-answer-requires : goal.add-answer-requires
+pub add-count-requires : goal.add-count-requires
 unfolding list_from
-add-answer-requires c =
+add-count-requires c =
     let a = c.args in
-    let k = c.at_most_u8-symbols in record {
+    let k = c.min-symbols in record {
       count_le_most_sets = (omega arith, refl, begin (walk_by a.kind a.targets.now a.others.now k.result) 0 (replicate 512 0) (replicate 8192 0) (record { keys_are = refl; next_are = refl }));
       in_row = λ m s b _. omega (arith, k.ensures);
     }
@@ -21,5 +21,5 @@ add-answer-requires c =
 pub returns : goal.returns
 returns c =
     let a = c.args in
-    let k = c.at_most_u8-symbols in
-    table_by_lem a.kind a.targets.now a.others.now a.k a.start k.result k.ensures c.add-answer.result _ _ c.add-answer.ensures
+    let k = c.min-symbols in
+    table_by_lem a.kind a.targets.now a.others.now a.k a.start k.result k.ensures c.add-count.result _ _ c.add-count.ensures

@@ -22,20 +22,21 @@ bounds-next-row c =
     let kept : skips_by a.omit c.step_key-key.result ≡ false = sym c.left_out.ensures ∙ c.if-left_out.false in
     omega (arith, c.requires.count_le_most_sets, c.requires.symbol_lt_most_symbols (ap (skips_by a.omit) (sym c.step_key-key.ensures) ∙ kept))
 
-pub returns-in-As : goal.returns-in-As
-returns-in-As c =
+pub returns : goal.returns
+returns c =
     let a = c.args in
     let is : c.step_key-key.result ≡ step_by a.kind a.targets.now a.others.now (get_or a.keys.now a.i.0 0) a.symbol = c.step_key-key.ensures in
     let kept : skips_by a.omit c.step_key-key.result ≡ false = sym c.left_out.ensures ∙ c.if-left_out.false in
     let w = c.number in
     stepped_whole (step_by a.kind a.targets.now a.others.now) (skips_by a.omit) a.keys.now a.next.now a.count a.i.0 a.symbol c.step_key-key.result c.requires.count_le_most_sets.0 c.requires.count_le_most_sets.1 c.requires.count_le_most_sets.2 is kept
-    (turn_means w.result) w.new.keys (entered_any nothing (skips_by a.omit) (take a.count a.keys.now) c.step_key-key.result (sym kept) w.ensures) c.in-As.number.0 c.in-As.after (ap turn_means c.in-As.is)
+    (turn_means w.result) w.new.keys (entered_any nothing (skips_by a.omit) (take a.count a.keys.now) c.step_key-key.result (sym kept) w.ensures) c.in_ok-number.number.0 c.in_ok-number.after (ap turn_means c.in_ok-number.was)
 
-pub returns-in-Full : goal.returns-in-Full
-returns-in-Full c =
+pub returns-in_err-number : goal.returns-in_err-number
+returns-in_err-number c =
     let a = c.args in
     let is : c.step_key-key.result ≡ step_by a.kind a.targets.now a.others.now (get_or a.keys.now a.i.0 0) a.symbol = c.step_key-key.ensures in
     let kept : skips_by a.omit c.step_key-key.result ≡ false = sym c.left_out.ensures ∙ c.if-left_out.false in
     let w = c.number in
-    stepped_over (step_by a.kind a.targets.now a.others.now) (skips_by a.omit) a.keys.now a.next.now a.count a.i.0 a.symbol c.step_key-key.result c.requires.count_le_most_sets.0 c.requires.count_le_most_sets.1 c.requires.count_le_most_sets.2 is kept
-    (turn_means w.result) w.new.keys (entered_any nothing (skips_by a.omit) (take a.count a.keys.now) c.step_key-key.result (sym kept) w.ensures) (ap turn_means c.in-Full.is)
+    rw c.from_residual.ensures
+    (stepped_over (step_by a.kind a.targets.now a.others.now) (skips_by a.omit) a.keys.now a.next.now a.count a.i.0 a.symbol c.step_key-key.result c.requires.count_le_most_sets.0 c.requires.count_le_most_sets.1 c.requires.count_le_most_sets.2 is kept
+    (turn_means w.result) w.new.keys (entered_any nothing (skips_by a.omit) (take a.count a.keys.now) c.step_key-key.result (sym kept) w.ensures) (ap turn_means c.in_err-number.was))

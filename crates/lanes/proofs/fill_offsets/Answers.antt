@@ -12,27 +12,25 @@ use Rattle.lanes.proofs.fill_offsets.Goals as goal
 
 pub loop-c-init : goal.loop-c-init
 loop-c-init c = (
-  omega arith,
   ap length c.requires ∙ length-replicate {A = ℕ} 8208 8192,
   λ b h. absurd (omega arith),
   λ b h l. rw c.requires (get_or-replicate {A = ℕ} 8208 b 8192 0 l),
 )
 
 pub bounds-t-c : goal.bounds-t-c
-bounds-t-c c = omega (arith, c.loop-c.invariant.1)
+bounds-t-c c = omega (arith, c.loop-c.invariant.0)
 
 pub loop-c-preserved : goal.loop-c-preserved
 loop-c-preserved c =
     let l = c.loop-c in
     let v = c.row_of in
     let n = c.args.next.now in (
-      omega arith,
-      length-set l.t l.c v.result ∙ l.invariant.1,
-      cell_stored l.t (λ b. row_of (get_or n b 0)) l.c v.result (omega arith) v.ensures l.invariant.2,
-      λ b h k. get_or-set_other l.t l.c b v.result 0 (λ e. omega arith) ∙ l.invariant.3 b (omega arith) k,
+      length-set l.t l.c v.result ∙ l.invariant.0,
+      cell_stored l.t (λ b. row_of (get_or n b 0)) l.c v.result (omega arith) v.ensures l.invariant.1,
+      λ b h k. get_or-set_other l.t l.c b v.result 0 (λ e. omega arith) ∙ l.invariant.2 b (omega arith) k,
     )
 
 pub returns : goal.returns
 returns c =
     let l = c.loop-c in
-    filled_table c.args.next.now l.t l.invariant.1 (λ b h. l.invariant.2 b (omega arith)) (λ b h k. l.invariant.3 b (omega arith) k)
+    filled_table c.args.next.now l.t l.invariant.0 (λ b h. l.invariant.1 b (omega arith)) (λ b h k. l.invariant.2 b (omega arith) k)

@@ -1,13 +1,9 @@
 -- `back_to` meets its contract. The loop's invariant: the states below q that lead there are found.
 -- Assumes nothing.
 use mathlib.Core.Path.{◌≡◌}
-use Prim.Native.Nat.{◌≤◌, ◌-◌}
 use Rattle.masks.specs.Masks.{mask_of}
 use Rattle.live.specs.Live.{leads}
 use Rattle.live.proofs.back_to.Given as goal
 
 abbrev pub invariant-loop-q : goal.invariant-loop-q
-invariant-loop-q l = (l.q ≤ 32) × (l.found ≡ mask_of (leads l.targets l.set) l.q)
-
-abbrev pub decreases-loop-q : goal.decreases-loop-q
-decreases-loop-q l = 32 - l.q
+invariant-loop-q l = l.found ≡ mask_of (leads l.targets l.set) l.q

@@ -13,7 +13,7 @@ use Rattle.live.proofs.leads.Goals as goal
 pub loop-s-init : goal.loop-s-init
 loop-s-init c =
     let a = c.args in
-    (search rules, search rules, none_yet (λ x. shares (target_mask a.targets.now a.q.0 x) a.set))
+    (search rules, none_yet (λ x. shares (target_mask a.targets.now a.q.0 x) a.set))
 
 pub returns-then-meets : goal.returns-then-meets
 returns-then-meets c =
@@ -27,8 +27,7 @@ loop-s-preserved c =
     let x = c.loop-s in
     let a = c.args in (
       x.invariant.0,
-      omega arith,
-      none_more (λ y. shares (target_mask a.targets.now a.q.0 y) a.set) x.s x.invariant.2
+      none_more (λ y. shares (target_mask a.targets.now a.q.0 y) a.set) x.s x.invariant.1
           (ap (λ (y : ℕ). shares y a.set) (sym (cell a.targets.now a.q.0 x.s (omega arith))) ∙ sym c.meets.ensures ∙ c.if-meets.false),
     )
 
@@ -36,4 +35,4 @@ pub returns : goal.returns
 returns c =
     let x = c.loop-s in
     let e : x.s ≡ 16 = omega arith in
-    sym (rw e at x.invariant.2)
+    sym (rw e at x.invariant.1)

@@ -6,25 +6,26 @@ use Rattle.masks.proofs.Turns.{turns_more, turns_whole}
 use Rattle.live.specs.Live.{back_to, within}
 use Rattle.live.proofs.live_states.Goals as goal
 
-pub loop-i-init : goal.loop-i-init
+pub loop-round-init : goal.loop-round-init
 unfolding turns
-loop-i-init c = (omega arith, refl)
+loop-round-init c =
+    refl
 
 pub returns-then-more-live : goal.returns-then-more-live
 returns-then-more-live c =
-    let l = c.loop-i in
+    let l = c.loop-round in
     let a = c.args in
-    turns_whole (back_to a.targets.now) a.finals 32 l.i l.live l.invariant.1 l.invariant.0 (sym c.back_to-more.ensures ∙ c.if-more-live.true)
+    turns_whole (back_to a.targets.now) a.finals 32 l._round l.live l.invariant (omega arith) (sym c.back_to-more.ensures ∙ c.if-more-live.true)
 
-pub loop-i-preserved : goal.loop-i-preserved
-loop-i-preserved c =
-    let l = c.loop-i in
+pub loop-round-preserved : goal.loop-round-preserved
+loop-round-preserved c =
+    let l = c.loop-round in
     let a = c.args in
-    (omega arith, c.back_to-more.ensures ∙ turns_more (back_to a.targets.now) a.finals l.i l.live l.invariant.1)
+    c.back_to-more.ensures ∙ turns_more (back_to a.targets.now) a.finals l._round l.live l.invariant
 
 pub returns : goal.returns
 returns c =
-    let l = c.loop-i in
+    let l = c.loop-round in
     let a = c.args in
-    let e : l.i ≡ 32 = omega arith in
-    l.invariant.1 ∙ ap (within a.targets.now a.finals) e
+    let e : l._round ≡ 32 = omega arith in
+    l.invariant ∙ ap (within a.targets.now a.finals) e

@@ -11,7 +11,7 @@ use Rattle.locating.proofs.find_by_run.Goals as goal
 
 pub loop-q-init : goal.loop-q-init
 unfolding greatest
-loop-q-init c = (omega arith, record { none = none_yet _; most = refl })
+loop-q-init c = (record { none = none_yet _; most = refl })
 
 pub returns-then-run-gt0 : goal.returns-then-run-gt0
 returns-then-run-gt0 c =
@@ -27,17 +27,15 @@ loop-q-preserved c =
     let cut = pruned a.sets.now a.next.now a.live a.count in
     let over : ℕ → Type 0 = λ n. Over a.sets.now cut a.singles.now a.starts a.text.now (loop.q + 1) n in
     let here = c.loop-q-test.true in
-    let tested = c.member.ensures in (
-      omega arith,
-      (elim c.if-member.branch [
-        | then-member+else-run-gt0 w ↦ subst over (sym (w.looked-is ∙ w.greater-looked.ensures))
-            (over_run a.sets.now cut a.singles.now a.starts a.text.now loop.q here loop.looked loop.invariant.1
-            (sym tested ∙ w.if-member.true) _ _ w.run_kept-run.ensures.mask_value w.if-run-gt0.false w.run_kept-run.ensures.looked_value)
-        | else-member w ↦ subst over (sym w.looked-is)
-            (over_other a.sets.now cut a.singles.now a.starts a.text.now loop.q here loop.looked loop.invariant.1
-            (sym tested ∙ w.if-member.false))
-      ]),
-    )
+    let tested = c.member.ensures in
+    (elim c.if-member.branch [
+      | then-member+else-run-gt0 w ↦ subst over (sym (w.looked-is ∙ w.max-looked.ensures))
+          (over_run a.sets.now cut a.singles.now a.starts a.text.now loop.q here loop.looked loop.invariant
+          (sym tested ∙ w.if-member.true) _ _ w.run_kept-run.ensures.mask_value w.if-run-gt0.false w.run_kept-run.ensures.looked_value)
+      | else-member w ↦ subst over (sym w.looked-is)
+          (over_other a.sets.now cut a.singles.now a.starts a.text.now loop.q here loop.looked loop.invariant
+          (sym tested ∙ w.if-member.false))
+    ])
 
 pub returns : goal.returns
 returns c =
@@ -46,4 +44,4 @@ returns c =
     let cut = pruned a.sets.now a.next.now a.live a.count in
     let e : loop.q ≡ 32 = omega arith in
     all_over a.sets.now cut a.singles.now a.starts a.text.now loop.looked
-    (subst (λ (q : ℕ). Over a.sets.now cut a.singles.now a.starts a.text.now q loop.looked) e loop.invariant.1)
+    (subst (λ (q : ℕ). Over a.sets.now cut a.singles.now a.starts a.text.now q loop.looked) e loop.invariant)

@@ -1,12 +1,8 @@
 -- `find_by_run` meets its contract: the runs of the states below q are over. Assumes nothing.
-use Prim.Native.Nat.{◌-◌, ◌≤◌}
 use Rattle.locating.specs.mirror.Pruning.{pruned}
 use Rattle.locating.proofs.ByRun.{Over}
 use Rattle.locating.proofs.find_by_run.Given as goal
 
 abbrev pub invariant-loop-q : goal.invariant-loop-q
 invariant-loop-q l =
-    (l.q ≤ 32) × Over l.sets (pruned l.sets l.next l.live l.count) l.singles l.starts l.text l.q l.looked
-
-abbrev pub decreases-loop-q : goal.decreases-loop-q
-decreases-loop-q l = 32 - l.q
+    Over l.sets (pruned l.sets l.next l.live l.count) l.singles l.starts l.text l.q l.looked

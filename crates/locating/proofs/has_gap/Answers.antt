@@ -7,7 +7,7 @@ use Rattle.base.proofs.Conditions.{any_at, none_yet, none_more}
 use Rattle.locating.proofs.has_gap.Goals as goal
 
 pub loop-p-init : goal.loop-p-init
-loop-p-init c = (omega arith, none_yet _)
+loop-p-init c = (none_yet _)
 
 pub returns-then-filled-p-eq0 : goal.returns-then-filled-p-eq0
 returns-then-filled-p-eq0 c =
@@ -17,10 +17,10 @@ returns-then-filled-p-eq0 c =
 pub loop-p-preserved : goal.loop-p-preserved
 loop-p-preserved c =
     let x = c.loop-p in
-    (omega arith, none_more _ x.p x.invariant.1 (ne_eqb _ _ c.if-filled-p-eq0.false))
+    (none_more _ x.p x.invariant (ne_eqb _ _ c.if-filled-p-eq0.false))
 
 pub returns : goal.returns
 returns c =
     let x = c.loop-p in
     let e : x.p ≡ c.args.places = omega arith in
-    sym (rw (← e) x.invariant.1)
+    sym (rw (← e) x.invariant)

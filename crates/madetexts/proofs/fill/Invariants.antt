@@ -7,9 +7,6 @@ use lib.ListN.{length, take}
 use Rattle.madetexts.specs.Values.{made_text}
 use Rattle.madetexts.proofs.fill.Given as goal
 
-abbrev pub invariant-loop-i : goal.invariant-loop-i
-invariant-loop-i l =
-    (l.i ≤ length l.text) × (length l.text ≡ length l.initial.text) × (made_text l.k l.seed (length l.initial.text) ≡ take l.i l.text ++ made_text l.k l.x (length l.initial.text - l.i))
-
-abbrev pub decreases-loop-i : goal.decreases-loop-i
-decreases-loop-i l = length l.text - l.i
+abbrev pub invariant-loop-byte : goal.invariant-loop-byte
+invariant-loop-byte l =
+    (l.byte-index ≤ length l.text) × (length l.text ≡ length l.initial.text) × (made_text l.k l.seed (length l.initial.text) ≡ take l.byte-index l.text ++ made_text l.k l.x (length l.initial.text - l.byte-index))

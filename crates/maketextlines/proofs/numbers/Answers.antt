@@ -1,19 +1,13 @@
 -- `numbers` meets its contract. Assumes nothing.
-use borrow.Author.Rules.{rules}
-use Rattle.maketextlines.proofs.Readings.{no_symbols, no_seed, no_length, great_length, all_three}
+use Rattle.maketextlines.proofs.Readings.{great_length, all_three}
 use Rattle.maketextlines.proofs.numbers.Goals as goal
 
-pub returns-in_default : goal.returns-in_default
-returns-in_default c = search (rules, no_symbols)
-
-pub returns-in_default-number : goal.returns-in_default-number
-returns-in_default-number c = search (rules, no_seed)
-
-pub returns-in_default-number-2 : goal.returns-in_default-number-2
-returns-in_default-number-2 c = search (rules, no_length)
-
 pub returns-then-n-gt-TEXT : goal.returns-then-n-gt-TEXT
-returns-then-n-gt-TEXT c = search (rules, great_length)
+returns-then-n-gt-TEXT c =
+    let a = c.args in
+    great_length a.k.now a.seed.now a.length.now _ c.in_ok-symbols.ensures _ c.in_ok-from.ensures _ c.in_ok-n.ensures c.if-n-gt-TEXT.true
 
 pub returns : goal.returns
-returns c = search (rules, all_three)
+returns c =
+    let a = c.args in
+    all_three a.k.now a.seed.now a.length.now _ c.in_ok-symbols.ensures _ c.in_ok-from.ensures _ c.in_ok-n.ensures c.if-n-gt-TEXT.false

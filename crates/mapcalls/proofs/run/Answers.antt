@@ -1,13 +1,12 @@
 -- `run` meets its contract. Assumes nothing.
-use Rattle.mapcalls.proofs.Ways.{beside, run_lacks, run_mapped, run_refused}
-use borrow.Author.Rules.{rules}
+use Rattle.mapcalls.proofs.Ways.{run_lacks, ran_reply_lem}
 use Rattle.mapcalls.proofs.run.Goals as goal
 
-pub returns-then-not-state : goal.returns-then-not-state
-returns-then-not-state c = search (rules, beside, run_lacks)
+pub returns-in_default : goal.returns-in_default
+returns-in_default c = run_lacks c.args.state c.args.chunk.now (cc)
 
-pub returns-in-Accepted : goal.returns-in-Accepted
-returns-in-Accepted c = search (rules, run_mapped)
+pub returns-in-Ok : goal.returns-in-Ok
+returns-in-Ok c = ran_reply_lem c.args.state c.args.chunk.now c.in-Some.profile c.in-Some.is _ c.in-Ok.ensures
 
-pub returns-in-Refused : goal.returns-in-Refused
-returns-in-Refused c = search (rules, beside, run_refused)
+pub returns-in-Err : goal.returns-in-Err
+returns-in-Err c = ran_reply_lem c.args.state c.args.chunk.now c.in-Some.profile c.in-Some.is _ c.in-Err.ensures

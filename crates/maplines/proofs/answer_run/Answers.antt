@@ -1,4 +1,5 @@
 -- `answer_run` meets its contract. Assumes nothing.
+use mathlib.Core.Path.{refl}
 use Rattle.maplines.proofs.Ways.{run_malformed, run_put}
 use Rattle.fields.proofs.Taking.{put_within, put_prefix}
 use borrow.Author.Rules.{rules}
@@ -7,11 +8,19 @@ use Rattle.maplines.proofs.answer_run.Goals as goal
 pub slice_bounds-run-end : goal.slice_bounds-run-end
 slice_bounds-run-end c = search (rules, put_within)
 
-pub slice_bounds-run-end-in-Put : goal.slice_bounds-run-end-in-Put
-slice_bounds-run-end-in-Put c = search (rules, put_prefix)
+pub slice_bounds-run-end-2 : goal.slice_bounds-run-end-2
+slice_bounds-run-end-2 c = search (rules, put_prefix)
 
-pub returns-in-Malformed : goal.returns-in-Malformed
-returns-in-Malformed c = search (rules, run_malformed)
+pub returns-in_default : goal.returns-in_default
+returns-in_default c =
+    record {
+      says = run_malformed _ _ _ _ c.in_default.ensures c.args.state refl _ _ _ c.say_malformed.ensures;
+      scratch = search rules;
+    }
 
-pub returns-in-Put : goal.returns-in-Put
-returns-in-Put c = search (rules, run_put)
+pub returns : goal.returns
+returns c =
+    record {
+      says = run_put _ _ _ _ c.in-Some.ensures c.args.state c.requires.0 _ refl _ _ _ _ c.say_reply.ensures c.run.ensures;
+      scratch = search rules;
+    }

@@ -16,12 +16,12 @@ loop-q-preserved c =
     let x = c.loop-q in
     let a = c.args in (
       omega arith,
-      length-set x.masks x.q c.own_set.result ∙ x.invariant.1,
-      cell_stored x.masks (λ i. cond (ltb i a.n) (single i) 0) x.q c.own_set.result (omega (arith, x.invariant.1)) c.own_set.ensures x.invariant.2,
+      length-set x.mask-items x.q c.own_set.result ∙ x.invariant.1,
+      cell_stored x.mask-items (λ i. cond (ltb i a.n) (single i) 0) x.q c.own_set.result (omega (arith, x.invariant.1)) c.own_set.ensures x.invariant.2,
     )
 
 pub returns : goal.returns
 returns c =
     let x = c.loop-q in
     let a = c.args in
-    is_list_from x.masks 8 (λ i. cond (ltb i a.n) (single i) 0) x.invariant.1 (λ i b. x.invariant.2 i (omega arith))
+    is_list_from x.mask-items 8 (λ i. cond (ltb i a.n) (single i) 0) x.invariant.1 (λ i b. x.invariant.2 i (omega arith))

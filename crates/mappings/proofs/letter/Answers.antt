@@ -15,12 +15,12 @@ loop-q-preserved c =
     let x = c.loop-q in
     let a = c.args in (
       omega arith,
-      length-set x.masks x.q c.target.result ∙ x.invariant.1,
-      cell_stored x.masks (λ i. target_mask a.targets.now i a.symbol % 2 ^ 8) x.q c.target.result (omega (arith, x.invariant.1)) c.target.ensures x.invariant.2,
+      length-set x.mask-items x.q c.target.result ∙ x.invariant.1,
+      cell_stored x.mask-items (λ i. target_mask a.targets.now i a.symbol % 2 ^ 8) x.q c.target.result (omega (arith, x.invariant.1)) c.target.ensures x.invariant.2,
     )
 
 pub returns : goal.returns
 returns c =
     let x = c.loop-q in
     let a = c.args in
-    is_list_from x.masks 8 (λ i. target_mask a.targets.now i a.symbol % 2 ^ 8) x.invariant.1 (λ i b. x.invariant.2 i (omega arith))
+    is_list_from x.mask-items 8 (λ i. target_mask a.targets.now i a.symbol % 2 ^ 8) x.invariant.1 (λ i b. x.invariant.2 i (omega arith))

@@ -11,6 +11,3 @@ use Rattle.mappings.proofs.pack.Given as goal
 
 abbrev pub invariant-loop-q : goal.invariant-loop-q
 invariant-loop-q l = (l.q ≤ 8) × (l.packed ≡ pack (drop l.q l.masks))
-
-abbrev pub decreases-loop-q : goal.decreases-loop-q
-decreases-loop-q l = l.q

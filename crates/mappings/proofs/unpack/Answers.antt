@@ -19,13 +19,13 @@ loop-q-preserved c =
     let m : ℕ = x.rest % 256 in
     let up : 8 * x.q + 8 ≡ 8 * (x.q + 1) = omega arith in (
       omega arith,
-      length-set x.masks x.q m ∙ x.invariant.1,
+      length-set x.mask-items x.q m ∙ x.invariant.1,
       ap (λ (y : ℕ). y / 256) x.invariant.2 ∙ shr-shr a.packed (8 * x.q) 8 ∙ ap (λ (y : ℕ). a.packed / 2 ^ y) up,
-      cell_stored x.masks (λ i. a.packed / 2 ^ (8 * i) % 2 ^ 8) x.q m (omega (arith, x.invariant.1)) (ap (λ (y : ℕ). y % 256) x.invariant.2) x.invariant.3,
+      cell_stored x.mask-items (λ i. a.packed / 2 ^ (8 * i) % 2 ^ 8) x.q m (omega (arith, x.invariant.1)) (ap (λ (y : ℕ). y % 256) x.invariant.2) x.invariant.3,
     )
 
 pub returns : goal.returns
 returns c =
     let x = c.loop-q in
     let a = c.args in
-    is_list_from x.masks 8 (λ i. a.packed / 2 ^ (8 * i) % 2 ^ 8) x.invariant.1 (λ i b. x.invariant.3 i (omega arith))
+    is_list_from x.mask-items 8 (λ i. a.packed / 2 ^ (8 * i) % 2 ^ 8) x.invariant.1 (λ i b. x.invariant.3 i (omega arith))

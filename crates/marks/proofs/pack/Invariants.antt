@@ -5,8 +5,8 @@ use lib.ListN.{length}
 use Rattle.marks.proofs.Packing.{Packed}
 use Rattle.marks.proofs.pack.Given as goal
 
-abbrev pub invariant-loop-i : goal.invariant-loop-i
-invariant-loop-i l = Packed l.chunk l.initial.text l.text l.n l.i
+abbrev pub invariant-loop-b : goal.invariant-loop-b
+invariant-loop-b l = Packed l.chunk l.initial.text l.text l.n l.b-index
 
-abbrev pub decreases-loop-i : goal.decreases-loop-i
-decreases-loop-i l = length l.chunk - l.i
+abbrev pub decreases-loop-b : goal.decreases-loop-b
+decreases-loop-b l = length l.chunk - l.b-index

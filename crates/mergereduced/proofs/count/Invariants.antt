@@ -1,13 +1,9 @@
 -- `count` meets its contract. The loop's invariant: `out` counts the members below q. Assumes
 -- nothing.
 use mathlib.Core.Path.{◌≡◌}
-use Prim.Native.Nat.{◌-◌, ◌≤◌}
 use Rattle.masks.specs.Turns.{rank}
 use Rattle.mergereduced.specs.mirror.Asked.{set_in}
 use Rattle.mergereduced.proofs.count.Given as goal
 
 abbrev pub invariant-loop-q : goal.invariant-loop-q
-invariant-loop-q l = (l.q ≤ l.n) × (l.out ≡ rank (set_in l.set) l.q)
-
-abbrev pub decreases-loop-q : goal.decreases-loop-q
-decreases-loop-q l = l.n - l.q
+invariant-loop-q l = l.out ≡ rank (set_in l.set) l.q

@@ -1,7 +1,7 @@
 -- `nth` meets its contract. Assumes nothing.
 use mathlib.Core.Path.{◌≡◌}
 use mathlib.Core.Bool.{◌&&◌}
-use Prim.Native.Nat.{◌-◌, ◌≤◌}
+use Prim.Native.Nat.{◌-◌}
 use lib.Dec.{eqb}
 use Rattle.masks.specs.Masks.{has}
 use Rattle.masks.specs.Turns.{rank}
@@ -10,7 +10,6 @@ use Rattle.mergereduced.specs.mirror.Asked.{set_in}
 use Rattle.mergereduced.proofs.nth.Given as goal
 
 abbrev pub invariant-loop-q : goal.invariant-loop-q
-invariant-loop-q l = (l.q ≤ l.n) × (l.below ≡ rank (set_in l.set) l.q) × (first_from (λ x. has (set_in l.set) x && eqb (rank (set_in l.set) x) l.p) 0 l.n ≡ first_from (λ x. has (set_in l.set) x && eqb (rank (set_in l.set) x) l.p) l.q (l.n - l.q))
-
-abbrev pub decreases-loop-q : goal.decreases-loop-q
-decreases-loop-q l = l.n - l.q
+invariant-loop-q l =
+    (l.below ≡ rank (set_in l.set) l.q)
+    × (first_from (λ x. has (set_in l.set) x && eqb (rank (set_in l.set) x) l.p) 0 l.n ≡ first_from (λ x. has (set_in l.set) x && eqb (rank (set_in l.set) x) l.p) l.q (l.n - l.q))

@@ -3,8 +3,8 @@ use Rattle.mergereduced.proofs.Ways.{own_taken, own_left}
 use borrow.Author.Rules.{rules}
 use Rattle.mergereduced.proofs.reduced_or_own.Goals as goal
 
-pub returns-in-Accepted : goal.returns-in-Accepted
-returns-in-Accepted c = search (rules, own_taken)
+pub returns-in-Ok : goal.returns-in-Ok
+returns-in-Ok c = search (rules, own_taken)
 
-pub returns-in-Refused : goal.returns-in-Refused
-returns-in-Refused c = search (rules, own_left)
+pub returns-in-Err : goal.returns-in-Err
+returns-in-Err c = search (rules, own_left)

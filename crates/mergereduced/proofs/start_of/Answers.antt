@@ -11,28 +11,18 @@ use Rattle.mergereduced.proofs.Ways.{states_most, set_small}
 use Rattle.mergereduced.proofs.start_of.Goals as goal
 
 pub loop-q-init : goal.loop-q-init
-loop-q-init c = (length-replicate {A = ℕ} 1024 0, omega arith, λ i l. absurd (omega arith))
+loop-q-init c = (length-replicate {A = ℕ} 1024 0, λ i l. absurd (omega arith))
 
 pub start_cell-requires : goal.start_cell-requires
 start_cell-requires c = c.requires
-
-pub bounds-out-q : goal.bounds-out-q
-bounds-out-q c = omega (arith, c.loop-q-test.true)
-
-pub overflow_add-q : goal.overflow_add-q
-overflow_add-q c = omega (arith, c.loop-q-test.true)
-
-pub loop-q-smaller : goal.loop-q-smaller
-loop-q-smaller c = omega (arith, c.loop-q-test.true)
 
 pub loop-q-preserved : goal.loop-q-preserved
 loop-q-preserved c =
     let x = c.loop-q in
     let a = c.args in
-    let l : x.q < length x.out = omega (arith, x.invariant.0, c.loop-q-test.true) in (
-      length-set x.out x.q c.start_cell.result ∙ x.invariant.0,
-      omega (arith, c.loop-q-test.true),
-      cell_stored x.out (bit (set_of a.way a.n1 a.n2 a.a a.b)) x.q c.start_cell.result l c.start_cell.ensures x.invariant.2,
+    let l : x.q < length x.member-items = omega arith in (
+      length-set x.member-items x.q c.start_cell.result ∙ x.invariant.0,
+      cell_stored x.member-items (bit (set_of a.way a.n1 a.n2 a.a a.b)) x.q c.start_cell.result l c.start_cell.ensures x.invariant.1,
     )
 
 pub returns : goal.returns
@@ -40,9 +30,9 @@ returns c =
     let x = c.loop-q in
     let a = c.args in
     let g = c.requires in
-    let e : x.q ≡ 1024 = omega (arith, x.invariant.1, c.loop-q-test.false) in
-    set_made x.out (set_of a.way a.n1 a.n2 a.a a.b)
+    let e : x.q ≡ 1024 = omega arith in
+    set_made x.member-items (set_of a.way a.n1 a.n2 a.a a.b)
     (λ q e.
     let l = set_small a.way a.n1 a.n2 a.a a.b g.0 g.1 q e in
     omega (arith, l, states_most a.way a.n1 a.n2 g.1))
-    (λ i l. x.invariant.2 i (omega arith))
+    (λ i l. x.invariant.1 i (omega arith))

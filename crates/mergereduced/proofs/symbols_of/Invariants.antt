@@ -1,13 +1,9 @@
 -- `symbols_of` meets its contract: the cells below `cell` are filled. Assumes nothing.
 use mathlib.Core.Path.{◌≡◌}
-use Prim.Native.Nat.{ℕ, ◌-◌, ◌/◌, ◌%◌, ◌<◌, ◌≤◌}
+use Prim.Native.Nat.{ℕ, ◌/◌, ◌%◌, ◌<◌}
 use lib.ListN.{length, get_or}
 use Rattle.mergereduced.specs.mirror.Asked.{symbols_to}
 use Rattle.mergereduced.proofs.symbols_of.Given as goal
 
 abbrev pub invariant-loop-cell : goal.invariant-loop-cell
-invariant-loop-cell l =
-    (length l.out ≡ 1024) × (l.cell ≤ 1024) × ((i : ℕ) → i < l.cell → get_or l.out i 0 ≡ symbols_to l.t (i / 32) (i % 32))
-
-abbrev pub decreases-loop-cell : goal.decreases-loop-cell
-decreases-loop-cell l = 1024 - l.cell
+invariant-loop-cell l = (length l.symbols-items ≡ 1024) × ((i : ℕ) → i < l.cell → get_or l.symbols-items i 0 ≡ symbols_to l.t (i / 32) (i % 32))

@@ -9,35 +9,22 @@ use Rattle.mergereduced.specs.mirror.Asked.{cell_in}
 use Rattle.mergereduced.proofs.table_of.Goals as goal
 
 pub loop-cell-init : goal.loop-cell-init
-loop-cell-init c = (length-replicate {A = ℕ} 512 0, omega arith, λ i l. absurd (omega arith))
-
-pub offset_bounds-table-cell : goal.offset_bounds-table-cell
-offset_bounds-table-cell c = omega (arith, c.loop-cell-test.true)
-
-pub bounds-table-cell : goal.bounds-table-cell
-bounds-table-cell c = omega (arith, c.loop-cell-test.true)
-
-pub overflow_add-cell : goal.overflow_add-cell
-overflow_add-cell c = omega (arith, c.loop-cell-test.true)
-
-pub loop-cell-smaller : goal.loop-cell-smaller
-loop-cell-smaller c = omega (arith, c.loop-cell-test.true)
+loop-cell-init c = (length-replicate {A = ℕ} 512 0, λ i l. absurd (omega arith))
 
 pub loop-cell-preserved : goal.loop-cell-preserved
 loop-cell-preserved c =
     let x = c.loop-cell in
     let a = c.args in
     let g : ℕ → ℕ = cell_in (targets_of a.way a.n1 a.n2 a.t1.now a.t2.now) a.list.now a.c in
-    let l : x.cell < length x.table = omega (arith, x.invariant.0, c.loop-cell-test.true) in (
-      length-set x.table x.cell c.cell_of.result ∙ x.invariant.0,
-      omega (arith, c.loop-cell-test.true),
-      cell_stored x.table g x.cell c.cell_of.result l c.cell_of.ensures x.invariant.2,
+    let l : x.cell < length x.mask-items = omega arith in (
+      length-set x.mask-items x.cell c.cell_of.result ∙ x.invariant.0,
+      cell_stored x.mask-items g x.cell c.cell_of.result l c.cell_of.ensures x.invariant.1,
     )
 
 pub returns : goal.returns
 returns c =
     let x = c.loop-cell in
     let a = c.args in
-    let e : x.cell ≡ 512 = omega (arith, x.invariant.1, c.loop-cell-test.false) in
-    is_list_from x.table 512 (cell_in (targets_of a.way a.n1 a.n2 a.t1.now a.t2.now) a.list.now a.c) x.invariant.0
-    (λ i l. x.invariant.2 i (omega arith))
+    let e : x.cell ≡ 512 = omega arith in
+    is_list_from x.mask-items 512 (cell_in (targets_of a.way a.n1 a.n2 a.t1.now a.t2.now) a.list.now a.c) x.invariant.0
+    (λ i l. x.invariant.1 i (omega arith))

@@ -3,8 +3,8 @@ use borrow.Author.Rules.{rules}
 use Rattle.mergescan.proofs.Kept.{first_ends, first_stray}
 use Rattle.mergescan.proofs.end_first.Goals as goal
 
-pub returns-in-Put : goal.returns-in-Put
-returns-in-Put c = search (rules, first_ends)
+pub returns-in-Some : goal.returns-in-Some
+returns-in-Some c = search (rules, first_ends)
 
-pub returns-in-Malformed : goal.returns-in-Malformed
-returns-in-Malformed c = search (rules, first_stray)
+pub returns-in-None : goal.returns-in-None
+returns-in-None c = search (rules, first_stray)

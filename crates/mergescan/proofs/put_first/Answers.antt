@@ -6,8 +6,8 @@ use Rattle.mergescan.proofs.put_first.Goals as goal
 pub slice_bounds-put_alone-end : goal.slice_bounds-put_alone-end
 slice_bounds-put_alone-end c = search (rules, prefix)
 
-pub returns-in-Put : goal.returns-in-Put
-returns-in-Put c = search (rules, first_put)
+pub returns-in-Some : goal.returns-in-Some
+returns-in-Some c = search (rules, first_put)
 
-pub returns-in-Malformed : goal.returns-in-Malformed
-returns-in-Malformed c = search (rules, first_malformed)
+pub returns-in-None : goal.returns-in-None
+returns-in-None c = search (rules, first_malformed)

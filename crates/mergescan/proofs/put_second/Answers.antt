@@ -6,11 +6,11 @@ use Rattle.mergescan.proofs.put_second.Goals as goal
 pub slice_bounds-put_pair-end : goal.slice_bounds-put_pair-end
 slice_bounds-put_pair-end c = search (rules, prefix)
 
-pub slice_bounds-put_pair-end-in-Put : goal.slice_bounds-put_pair-end-in-Put
-slice_bounds-put_pair-end-in-Put c = search (rules, prefix)
+pub slice_bounds-put_pair-end-in-Some : goal.slice_bounds-put_pair-end-in-Some
+slice_bounds-put_pair-end-in-Some c = search (rules, prefix)
 
-pub returns-in-Put : goal.returns-in-Put
-returns-in-Put c = search (rules, second_put)
+pub returns-in-Some : goal.returns-in-Some
+returns-in-Some c = search (rules, second_put)
 
-pub returns-in-Malformed : goal.returns-in-Malformed
-returns-in-Malformed c = search (rules, second_malformed)
+pub returns-in-None : goal.returns-in-None
+returns-in-None c = search (rules, second_malformed)

@@ -17,8 +17,8 @@ loop-cell-preserved c =
     let bytes = c.args.bytes.now in (
       omega arith,
       x.invariant.1,
-      length-set x.targets x.cell c.word.result ∙ x.invariant.2,
-      cell_stored x.targets (λ cell. word_at bytes (10 + 4 * cell)) x.cell c.word.result (omega arith) c.word.ensures x.invariant.3,
+      length-set x.target-items x.cell c.word.result ∙ x.invariant.2,
+      cell_stored x.target-items (λ cell. word_at bytes (10 + 4 * cell)) x.cell c.word.result (omega arith) c.word.ensures x.invariant.3,
     )
 
 pub returns : goal.returns
@@ -26,7 +26,7 @@ returns c =
     let x = c.loop-cell in
     let bytes = c.args.bytes.now in
     let all : x.cell ≡ 512 = omega arith in
-    let table = is_list_from x.targets 512 (λ cell. word_at bytes (10 + 4 * cell)) x.invariant.2 (λ cell h. x.invariant.3 cell (omega (arith, h, all))) in
+    let table = is_list_from x.target-items 512 (λ cell. word_at bytes (10 + 4 * cell)) x.invariant.2 (λ cell h. x.invariant.3 cell (omega (arith, h, all))) in
     λ i. record {
       n = byte_at bytes 0;
       k = byte_at bytes 1;

@@ -6,19 +6,17 @@ use mathlib.Core.Path.{sym, ◌∙◌}
 use Rattle.patternfile.proofs.write_pattern.Goals as goal
 
 pub returns-then-pattern-gt-PATTERN : goal.returns-then-pattern-gt-PATTERN
-returns-then-pattern-gt-PATTERN c = c.refuse.ensures ∙ on_30 c.args.pattern.now c.if-pattern-gt-PATTERN.true
+returns-then-pattern-gt-PATTERN c = on_30 c.args.pattern.now c.if-pattern-gt-PATTERN.true
 
 pub returns-then-not-grammatical : goal.returns-then-not-grammatical
 returns-then-not-grammatical c =
-    c.refuse-then-not-grammatical.ensures
-    ∙ on_31 c.args.pattern.now c.if-pattern-gt-PATTERN.false (sym c.grammatical.ensures ∙ c.if-not-grammatical.true)
+    on_31 c.args.pattern.now c.if-pattern-gt-PATTERN.false (sym c.grammatical.ensures ∙ c.if-not-grammatical.true)
 
 pub returns-then-count_letters-gt-LETTERS : goal.returns-then-count_letters-gt-LETTERS
 returns-then-count_letters-gt-LETTERS c =
     let text = c.args.pattern.now in
     let count = c.count_letters.ensures in
-    c.refuse-then-count_letters-gt-LETTERS.ensures
-    ∙ on_32 text c.if-pattern-gt-PATTERN.false (sym c.grammatical.ensures ∙ c.if-not-grammatical.false) (rw (← count) c.if-count_letters-gt-LETTERS.true)
+    on_32 text c.if-pattern-gt-PATTERN.false (sym c.grammatical.ensures ∙ c.if-not-grammatical.false) (rw (← count) c.if-count_letters-gt-LETTERS.true)
 
 pub slice_bounds-put_file-end : goal.slice_bounds-put_file-end
 slice_bounds-put_file-end c = sym (made _)

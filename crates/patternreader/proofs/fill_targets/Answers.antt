@@ -15,8 +15,8 @@ loop-c-preserved c =
     let x = c.loop-c in
     let a = c.args in (
       omega arith,
-      length-set x.t x.c (bit_and (get_or a.rows (x.c / 16) 0) (get_or a.positions (x.c % 16) 0)) ∙ x.invariant.1,
-      cell_stored x.t (λ k. bit_and (get_or a.rows (k / 16) 0) (get_or a.positions (k % 16) 0)) x.c (bit_and (get_or a.rows (x.c / 16) 0) (get_or a.positions (x.c % 16) 0))
+      length-set x.target-items x.c (bit_and (get_or a.rows (x.c / 16) 0) (get_or a.positions (x.c % 16) 0)) ∙ x.invariant.1,
+      cell_stored x.target-items (λ k. bit_and (get_or a.rows (k / 16) 0) (get_or a.positions (k % 16) 0)) x.c (bit_and (get_or a.rows (x.c / 16) 0) (get_or a.positions (x.c % 16) 0))
           (omega (arith, x.invariant.1))
           refl
           x.invariant.2,
@@ -26,4 +26,4 @@ pub returns : goal.returns
 returns c =
     let x = c.loop-c in
     let a = c.args in
-    is_list_from x.t 512 (λ k. bit_and (get_or a.rows (k / 16) 0) (get_or a.positions (k % 16) 0)) x.invariant.1 (λ k h. x.invariant.2 k (omega arith))
+    is_list_from x.target-items 512 (λ k. bit_and (get_or a.rows (k / 16) 0) (get_or a.positions (k % 16) 0)) x.invariant.1 (λ k h. x.invariant.2 k (omega arith))

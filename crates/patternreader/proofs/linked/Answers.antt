@@ -19,8 +19,8 @@ loop-i-preserved c =
     let e : c.kept.result ≡ cond (has a.last x.i) a.first 0 =
     c.kept.ensures ∙ ap (λ (b : Bool). cond b a.first 0) c.member-ends.ensures in (
       omega arith,
-      length-set x.out x.i (bit_or (get_or a.follow x.i 0) c.kept.result) ∙ x.invariant.1,
-      cell_stored x.out (λ k. bit_or (get_or a.follow k 0) (cond (has a.last k) a.first 0)) x.i (bit_or (get_or a.follow x.i 0) c.kept.result)
+      length-set x.mask-items x.i (bit_or (get_or a.follow x.i 0) c.kept.result) ∙ x.invariant.1,
+      cell_stored x.mask-items (λ k. bit_or (get_or a.follow k 0) (cond (has a.last k) a.first 0)) x.i (bit_or (get_or a.follow x.i 0) c.kept.result)
           (omega (arith, x.invariant.1))
           (ap (λ (m : ℕ). bit_or (get_or a.follow x.i 0) m) e)
           x.invariant.2,
@@ -30,4 +30,4 @@ pub returns : goal.returns
 returns c =
     let x = c.loop-i in
     let a = c.args in
-    is_list_from x.out 32 (λ k. bit_or (get_or a.follow k 0) (cond (has a.last k) a.first 0)) x.invariant.1 (λ k h. x.invariant.2 k (omega arith))
+    is_list_from x.mask-items 32 (λ k. bit_or (get_or a.follow k 0) (cond (has a.last k) a.first 0)) x.invariant.1 (λ k h. x.invariant.2 k (omega arith))

@@ -8,11 +8,11 @@ use Rattle.patternreader.specs.Reader.{after_bytes}
 use Rattle.patternreader.proofs.Loops.{read_more, read_end}
 use Rattle.patternreader.proofs.read_all.Goals as goal
 
-pub loop-i-init : goal.loop-i-init
-loop-i-init c = (omega arith, ap (λ (x : Reading). after_bytes x c.args.bytes.now) c.begin-r.ensures)
+pub loop-byte-init : goal.loop-byte-init
+loop-byte-init c = (omega arith, ap (λ (x : Reading). after_bytes x c.args.bytes.now) c.begin-r.ensures)
 
-pub loop-i-preserved : goal.loop-i-preserved
-loop-i-preserved c = (omega arith, search (rules, read_more))
+pub loop-byte-preserved : goal.loop-byte-preserved
+loop-byte-preserved c = (omega arith, search (rules, read_more))
 
 pub returns : goal.returns
 returns c = search (rules, read_end)

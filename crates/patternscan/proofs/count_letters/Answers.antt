@@ -5,11 +5,11 @@ use borrow.Author.Rules.{rules}
 use Rattle.patternscan.proofs.Loops.{count_more, count_end}
 use Rattle.patternscan.proofs.count_letters.Goals as goal
 
-pub loop-i-init : goal.loop-i-init
-loop-i-init c = (omega arith, omega arith, omega arith)
+pub loop-byte-init : goal.loop-byte-init
+loop-byte-init c = (omega arith, omega arith, omega arith)
 
-pub loop-i-preserved : goal.loop-i-preserved
-loop-i-preserved c = (omega arith, omega arith, search (rules, count_more))
+pub loop-byte-preserved : goal.loop-byte-preserved
+loop-byte-preserved c = (omega arith, omega arith, search (rules, count_more))
 
 pub returns : goal.returns
 returns c = search (rules, count_end)

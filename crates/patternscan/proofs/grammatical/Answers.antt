@@ -6,14 +6,14 @@ use borrow.Author.Rules.{rules}
 use Rattle.patternscan.proofs.Loops.{scan_more, scan_never, scan-end, deeper}
 use Rattle.patternscan.proofs.grammatical.Goals as goal
 
-pub loop-i-init : goal.loop-i-init
-loop-i-init c = (omega arith, omega arith, refl)
+pub loop-byte-init : goal.loop-byte-init
+loop-byte-init c = (omega arith, omega arith, refl)
 
 pub returns-in_default : goal.returns-in_default
 returns-in_default c = search (rules, scan_never)
 
-pub loop-i-preserved : goal.loop-i-preserved
-loop-i-preserved c = (omega arith, search (rules, deeper), search (rules, scan_more))
+pub loop-byte-preserved : goal.loop-byte-preserved
+loop-byte-preserved c = (omega arith, search (rules, deeper), search (rules, scan_more))
 
 pub returns : goal.returns
 returns c = search (rules, scan-end)

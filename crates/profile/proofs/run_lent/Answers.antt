@@ -5,7 +5,7 @@ use Rattle.profile.proofs.Ways.{run_12}
 use Rattle.profile.proofs.run_lent.Goals as goal
 
 pub returns-then-chunk-gt-CHUNK : goal.returns-then-chunk-gt-CHUNK
-returns-then-chunk-gt-CHUNK c = λ p lends. run_12 p _ _ c.if-chunk-gt-CHUNK.true c.refuse_chunk.ensures
+returns-then-chunk-gt-CHUNK c = λ p lends. run_12 p _ c.if-chunk-gt-CHUNK.true
 
 pub returns : goal.returns
 returns c =

@@ -2,12 +2,8 @@
 use Rattle.profiletext.proofs.Whole.{built_text_lem, refused_text_lem}
 use Rattle.profiletext.proofs.print_profile.Goals as goal
 
-pub returns-in-Accepted : goal.returns-in-Accepted
-returns-in-Accepted c =
-    let b = c.build_file-building in
-    rw (← built_text_lem c.args.file.now b.result b.ensures _ c.in-Accepted.is) c.put_profile.ensures
+pub returns-in-Ok : goal.returns-in-Ok
+returns-in-Ok c = rw (← built_text_lem c.args.file.now _ c.in-Ok.ensures) c.put_profile.ensures
 
-pub returns-in-Refused : goal.returns-in-Refused
-returns-in-Refused c =
-    let b = c.build_file-building in
-    rw (← refused_text_lem c.args.file.now b.result b.ensures _ c.in-Refused.is) c.put_refused.ensures
+pub returns-in-Err : goal.returns-in-Err
+returns-in-Err c = rw (← refused_text_lem c.args.file.now _ c.in-Err.ensures, ← c.number.ensures) c.put_refused.ensures

@@ -4,4 +4,4 @@ use Rattle.profiletext.proofs.put_profile.Goals as goal
 
 pub returns : goal.returns
 returns c =
-    whole c.args.profile c.at_most-count.result c.at_most-k.result c.at_most-count.ensures c.at_most-k.ensures c.requires c.put_head-lines.ensures c.put_lines.ensures
+    whole c.args.profile c.min-count.result c.min-k.result c.min-count.ensures c.min-k.ensures c.requires c.put_head-lines.ensures c.put_lines.ensures

@@ -7,17 +7,8 @@ use Rattle.questions.proofs.put_diagnosis.Goals as goal
 
 pub put_line-requires : goal.put_line-requires
 put_line-requires c =
-    omega (arith, c.requires, line_short lost_word (c.in-Lost.place ∷ []))
+    omega (arith, c.requires, line_short lost_word (c.in-Ok-Lost.place ∷ []))
 
-pub put_line-requires-in-Open : goal.put_line-requires-in-Open
-put_line-requires-in-Open c =
-    omega (arith, c.requires, line_short open_word (c.in-Open.places ∷ []))
-
-pub returns-in-Refused : goal.returns-in-Refused
-returns-in-Refused c = rw c.in-Refused.is c.put_refused.ensures
-
-pub returns-in-Lost : goal.returns-in-Lost
-returns-in-Lost c = rw c.in-Lost.is c.put_line.ensures
-
-pub returns-in-Open : goal.returns-in-Open
-returns-in-Open c = rw c.in-Open.is c.put_line-in-Open.ensures
+pub put_line-requires-in-Ok-Open : goal.put_line-requires-in-Ok-Open
+put_line-requires-in-Ok-Open c =
+    omega (arith, c.requires, line_short open_word (c.in-Ok-Open.places ∷ []))

@@ -8,16 +8,15 @@ use Rattle.reducing.specs.Reduced.{chosen_cell}
 use Rattle.reduce.proofs.chosen_list.Goals as goal
 
 pub loop-q-init : goal.loop-q-init
-loop-q-init c = (length-replicate {A = ℕ} 32 0, omega arith, λ i l. absurd (omega arith))
+loop-q-init c = (length-replicate {A = ℕ} 32 0, λ i l. absurd (omega arith))
 
 pub loop-q-preserved : goal.loop-q-preserved
 loop-q-preserved c =
     let x = c.loop-q in
     let a = c.args in
-    let l : x.q < length x.list = omega (arith, x.invariant.0, c.loop-q-test.true) in (
-      length-set x.list x.q c.chosen_cell.result ∙ x.invariant.0,
-      omega arith,
-      cell_stored x.list (chosen_cell a.delegates.now a.reached) x.q c.chosen_cell.result l c.chosen_cell.ensures x.invariant.2,
+    let l : x.q < length x.delegate-items = omega arith in (
+      length-set x.delegate-items x.q c.chosen_cell.result ∙ x.invariant.0,
+      cell_stored x.delegate-items (chosen_cell a.delegates.now a.reached) x.q c.chosen_cell.result l c.chosen_cell.ensures x.invariant.1,
     )
 
 pub returns : goal.returns
@@ -25,4 +24,4 @@ returns c =
     let x = c.loop-q in
     let a = c.args in
     let e : x.q ≡ 32 = omega arith in
-    is_list_from x.list 32 (chosen_cell a.delegates.now a.reached) x.invariant.0 (λ i l. x.invariant.2 i (omega arith))
+    is_list_from x.delegate-items 32 (chosen_cell a.delegates.now a.reached) x.invariant.0 (λ i l. x.invariant.1 i (omega arith))

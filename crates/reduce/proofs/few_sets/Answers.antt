@@ -1,10 +1,9 @@
 -- `few_sets` meets its contract. Assumes nothing.
-use borrow.Author.Rules.{rules}
-use Rattle.reduce.proofs.Ways.{sets_fit, sets_over}
+use mathlib.Core.Path.{refl, ◌∙◌}
+use Rattle.reduce.proofs.Ways.{sets_few}
 use Rattle.reduce.proofs.few_sets.Goals as goal
 
-pub returns-in-Whole : goal.returns-in-Whole
-returns-in-Whole c = search (rules, sets_fit)
-
-pub returns-in-Over : goal.returns-in-Over
-returns-in-Over c = search (rules, sets_over)
+pub returns : goal.returns
+returns c =
+    let r = c.args.rule in
+    c.is_some.ensures ∙ sets_few r.targets r.n r.k c.number_sets.result c.number_sets.ensures c.number_sets.result refl

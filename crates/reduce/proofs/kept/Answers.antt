@@ -6,29 +6,28 @@ use Rattle.masks.proofs.Turns.{turns_more, turns_whole}
 use Rattle.reducing.specs.Reduced.{delegated, onward, rounds}
 use Rattle.reduce.proofs.kept.Goals as goal
 
-pub loop-i-init : goal.loop-i-init
+pub loop-round-init : goal.loop-round-init
 unfolding turns
-loop-i-init c = (omega arith, c.delegated-set.ensures)
+loop-round-init c =
+    c.delegated-set.ensures
 
 pub returns-then-more-set : goal.returns-then-more-set
 returns-then-more-set c =
-    let l = c.loop-i in
+    let l = c.loop-round in
     let a = c.args in
-    turns_whole (onward a.targets.now a.delegates.now) (delegated a.delegates.now a.initials) 32 l.i l.set l.invariant.1 l.invariant.0
+    turns_whole (onward a.targets.now a.delegates.now) (delegated a.delegates.now a.initials) 32 l._round l.set l.invariant (omega arith)
     (sym c.onward-more.ensures ∙ c.if-more-set.true)
 
-pub loop-i-preserved : goal.loop-i-preserved
-loop-i-preserved c =
-    let l = c.loop-i in
-    let a = c.args in (
-      omega arith,
-      c.onward-more.ensures
-          ∙ turns_more (onward a.targets.now a.delegates.now) (delegated a.delegates.now a.initials) l.i l.set l.invariant.1,
-    )
+pub loop-round-preserved : goal.loop-round-preserved
+loop-round-preserved c =
+    let l = c.loop-round in
+    let a = c.args in
+    c.onward-more.ensures
+    ∙ turns_more (onward a.targets.now a.delegates.now) (delegated a.delegates.now a.initials) l._round l.set l.invariant
 
 pub returns : goal.returns
 returns c =
-    let l = c.loop-i in
+    let l = c.loop-round in
     let a = c.args in
-    let e : l.i ≡ 32 = omega arith in
-    l.invariant.1 ∙ ap (rounds a.targets.now a.delegates.now (delegated a.delegates.now a.initials)) e
+    let e : l._round ≡ 32 = omega arith in
+    l.invariant ∙ ap (rounds a.targets.now a.delegates.now (delegated a.delegates.now a.initials)) e

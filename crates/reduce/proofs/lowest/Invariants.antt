@@ -2,7 +2,7 @@
 -- what the whole search does. Assumes nothing.
 use mathlib.Core.Path.{◌≡◌}
 use mathlib.Core.Bool.{◌&&◌}
-use Prim.Native.Nat.{◌-◌, ◌≤◌}
+use Prim.Native.Nat.{◌-◌}
 use lib.Dec.{eqb}
 use lib.ListN.{get_or}
 use Rattle.masks.specs.Masks.{has}
@@ -11,9 +11,5 @@ use Rattle.reduce.proofs.lowest.Given as goal
 
 abbrev pub invariant-loop-p : goal.invariant-loop-p
 invariant-loop-p l =
-    (l.p ≤ l.q.0)
-    × (first_from (λ u. has l.reached u && eqb (get_or l.delegates u 0) l.d) 0 l.q.0
-    ≡ first_from (λ u. has l.reached u && eqb (get_or l.delegates u 0) l.d) l.p (l.q.0 - l.p))
-
-abbrev pub decreases-loop-p : goal.decreases-loop-p
-decreases-loop-p l = l.q.0 - l.p
+    first_from (λ u. has l.reached u && eqb (get_or l.delegates u 0) l.d) 0 l.q.0
+    ≡ first_from (λ u. has l.reached u && eqb (get_or l.delegates u 0) l.d) l.p (l.q.0 - l.p)

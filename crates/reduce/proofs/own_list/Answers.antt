@@ -7,19 +7,18 @@ use Rattle.base.proofs.Lists.{is_list_from, cell_stored}
 use Rattle.reduce.proofs.own_list.Goals as goal
 
 pub loop-q-init : goal.loop-q-init
-loop-q-init c = (length-replicate {A = ℕ} 32 0, omega arith, λ i l. absurd (omega arith))
+loop-q-init c = (length-replicate {A = ℕ} 32 0, λ i l. absurd (omega arith))
 
 pub loop-q-preserved : goal.loop-q-preserved
 loop-q-preserved c =
     let x = c.loop-q in
-    let l : x.q < length x.list = omega (arith, x.invariant.0, c.loop-q-test.true) in (
-      length-set x.list x.q x.q ∙ x.invariant.0,
-      omega arith,
-      cell_stored x.list (λ i. i) x.q x.q l refl x.invariant.2,
+    let l : x.q < length x.delegate-items = omega arith in (
+      length-set x.delegate-items x.q x.q ∙ x.invariant.0,
+      cell_stored x.delegate-items (λ i. i) x.q x.q l refl x.invariant.1,
     )
 
 pub returns : goal.returns
 returns c =
     let x = c.loop-q in
     let e : x.q ≡ 32 = omega arith in
-    is_list_from x.list 32 (λ i. i) x.invariant.0 (λ i l. x.invariant.2 i (omega arith))
+    is_list_from x.delegate-items 32 (λ i. i) x.invariant.0 (λ i l. x.invariant.1 i (omega arith))

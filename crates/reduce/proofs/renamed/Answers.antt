@@ -13,7 +13,7 @@ use Rattle.reduce.proofs.renamed.Goals as goal
 
 pub loop-q-init : goal.loop-q-init
 unfolding union
-loop-q-init c = (omega arith, refl)
+loop-q-init c = refl
 
 pub singleton-requires : goal.singleton-requires
 singleton-requires c = search (rules, count_low)
@@ -23,21 +23,19 @@ loop-q-preserved c =
     let l = c.loop-q in
     let a = c.args in
     let f : ℕ → ℕ = λ p. single (rank a.kept p) in
-    let both : ℕ = bit_and a.kept a.set in (
-      omega arith,
-      (elim c.if-member.branch [
-        | then-member w ↦ w.out-is
-            ∙ more f both l.q l.out l.invariant.1 w.singleton.result w.union-out.result
-            (sym c.member.ensures ∙ w.if-member.true)
-            (w.singleton.ensures ∙ ap single w.count-new.ensures)
-            w.union-out.ensures
-        | else-member w ↦ w.out-is ∙ skip f both l.q l.out l.invariant.1 (sym c.member.ensures ∙ w.if-member.false)
-      ]),
-    )
+    let both : ℕ = bit_and a.kept a.set in
+    elim c.if-member.branch [
+      | then-member w ↦ w.out-is
+          ∙ more f both l.q l.out l.invariant w.singleton.result w.union-out.result
+          (sym c.member.ensures ∙ w.if-member.true)
+          (w.singleton.ensures ∙ ap single w.count-new.ensures)
+          w.union-out.ensures
+      | else-member w ↦ w.out-is ∙ skip f both l.q l.out l.invariant (sym c.member.ensures ∙ w.if-member.false)
+    ]
 
 pub returns : goal.returns
 returns c =
     let l = c.loop-q in
     let a = c.args in
     let e : l.q ≡ 32 = omega arith in
-    l.invariant.1 ∙ ap (union (λ p. single (rank a.kept p)) (bit_and a.kept a.set)) e
+    l.invariant ∙ ap (union (λ p. single (rank a.kept p)) (bit_and a.kept a.set)) e

@@ -1,13 +1,9 @@
 -- `renamed` meets its contract. The loop's invariant: `out` has the new numbers of the members
 -- below q. Assumes nothing.
 use mathlib.Core.Path.{◌≡◌}
-use Prim.Native.Nat.{◌-◌, ◌≤◌}
 use Rattle.masks.specs.Masks.{single, union}
 use Rattle.masks.specs.Turns.{rank}
 use Rattle.reduce.proofs.renamed.Given as goal
 
 abbrev pub invariant-loop-q : goal.invariant-loop-q
-invariant-loop-q l = (l.q ≤ 32) × (l.out ≡ union (λ p. single (rank l.kept p)) l.both l.q)
-
-abbrev pub decreases-loop-q : goal.decreases-loop-q
-decreases-loop-q l = 32 - l.q
+invariant-loop-q l = l.out ≡ union (λ p. single (rank l.kept p)) l.both l.q

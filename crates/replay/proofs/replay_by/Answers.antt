@@ -51,4 +51,4 @@ loop-at-preserved c =
 pub returns : goal.returns
 returns c =
     let l = c.loop-at in
-    record { result_value = going_last _ l.judge l.line l.at l.invariant.4 c.loop-at-test.false _ (ap verdict c.ask_verdict-found.ensures); scratch = search rules }
+    record { result_value = going_last _ l.judge l.line l.at l.invariant.4 c.loop-at-test.false _ (ap verdict c.ask_verdict.ensures); scratch = search rules }

@@ -25,7 +25,8 @@ unfolding bad_targets
 none-bad n k ts e = e
 
 pub loop-cell-init : goal.loop-cell-init
-loop-cell-init c = (omega arith, none_yet (bad_cell c.args.n c.args.k c.args.targets.now))
+loop-cell-init c =
+    none_yet (bad_cell c.args.n c.args.k c.args.targets.now)
 
 pub bad_target-requires : goal.bad_target-requires
 bad_target-requires c = tt
@@ -40,15 +41,13 @@ returns-then-bad_target c =
 pub loop-cell-preserved : goal.loop-cell-preserved
 loop-cell-preserved c =
     let a = c.args in
-    let x = c.loop-cell in (
-      omega arith,
-      none-more-bad a.n a.k x.cell a.targets.now x.invariant.1
-          c.bad_target.ensures c.if-bad_target.false,
-    )
+    let x = c.loop-cell in
+    none-more-bad a.n a.k x.cell a.targets.now x.invariant
+    c.bad_target.ensures c.if-bad_target.false
 
 pub returns : goal.returns
 returns c =
     let a = c.args in
     let x = c.loop-cell in
     let e : x.cell ≡ 512 = omega arith in
-    sym (none-bad a.n a.k a.targets.now (rw e at x.invariant.1))
+    sym (none-bad a.n a.k a.targets.now (rw e at x.invariant))

@@ -4,9 +4,9 @@ use Rattle.dottext.proofs.Drawn.{drawn_most}
 use Rattle.ruledot.proofs.draw.Goals as goal
 
 pub slice_bounds-text-end : goal.slice_bounds-text-end
-slice_bounds-text-end g c = omega (arith, drawn_most c.print_whole-drawing.ensures c.in-Bytes.is)
+slice_bounds-text-end g c = omega (arith, drawn_most c.in-Ok.ensures)
 
-pub slice_bounds-write_all-end-in-Bytes : goal.slice_bounds-write_all-end-in-Bytes
-slice_bounds-write_all-end-in-Bytes g c =
-    let within : c.in-Bytes.length ≤ length c.print_whole-drawing.new.out = omega (arith, drawn_most c.print_whole-drawing.ensures c.in-Bytes.is) in
+pub slice_bounds-write_all-end-in-Ok : goal.slice_bounds-write_all-end-in-Ok
+slice_bounds-write_all-end-in-Ok g c =
+    let within : c.in-Ok.length ≤ length c.print_whole.new.out = omega (arith, drawn_most c.in-Ok.ensures) in
     sym (length-take-le _ _ within)

@@ -32,12 +32,12 @@ loop-q-init c =
     let f = c.args.file.now in
     let h = c.requires in
     let n = c.byte-n.ensures in
-    (n.0, c.byte-k.ensures.0, omega arith, n.1, omega (arith, n.0, h.1), h.2, none_yet (λ p. bad_section (state_count f) (symbol_count f) (section f p)))
+    (n.0, c.byte-k.ensures.0, n.1, omega (arith, n.0, h.1), h.2, none_yet (λ p. bad_section (state_count f) (symbol_count f) (section f p)))
 
 pub slice_bounds-section_breaks-end : goal.slice_bounds-section_breaks-end
 slice_bounds-section_breaks-end c =
     let x = c.loop-q in
-    omega (arith, within c.args.file.now x.invariant.5 x.q (omega (arith, x.invariant.0)), c.half-from.ensures.0, c.half-len.ensures.0)
+    omega (arith, within c.args.file.now x.invariant.4 x.q (omega (arith, x.invariant.0)), c.half-from.ensures.0, c.half-len.ensures.0)
 
 pub returns-then-section_breaks : goal.returns-then-section_breaks
 returns-then-section_breaks c =
@@ -54,11 +54,10 @@ loop-q-preserved c =
     let f = c.args.file.now in (
       x.invariant.0,
       x.invariant.1,
-      omega arith,
+      x.invariant.2,
       x.invariant.3,
       x.invariant.4,
-      x.invariant.5,
-      none_more (λ p. bad_section (state_count f) (symbol_count f) (section f p)) x.q x.invariant.6
+      none_more (λ p. bad_section (state_count f) (symbol_count f) (section f p)) x.q x.invariant.5
           (tested f x.q c.byte-n.result c.byte-k.result c.half-from.result c.half-len.result c.section_breaks.result x.invariant.0 x.invariant.1 c.half-from.ensures.0 c.half-len.ensures.0 c.section_breaks.ensures
           ∙ c.if-section_breaks.false),
     )
@@ -68,4 +67,4 @@ returns c =
     let x = c.loop-q in
     let f = c.args.file.now in
     let e : x.q ≡ state_count f = omega (arith, x.invariant.0) in
-    sym (arcs-end f (rw e at x.invariant.6))
+    sym (arcs-end f (rw e at x.invariant.5))

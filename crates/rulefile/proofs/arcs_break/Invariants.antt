@@ -4,15 +4,12 @@ use Rattle.base.specs.Conditions.{any_below}
 use Rattle.ruleformat.specs.Refusals.{bad_pairs, bad_section}
 use Rattle.ruleformat.specs.Format.{state_count, symbol_count, section}
 use lib.ListN.{length}
-use Prim.Native.Nat.{◌+◌, ◌-◌, ◌*◌, ◌≤◌, ◌<◌}
+use Prim.Native.Nat.{◌+◌, ◌*◌, ◌≤◌, ◌<◌}
 use mathlib.Core.Bool.{false}
 use mathlib.Core.Path.{◌≡◌}
 use Rattle.rulefile.proofs.arcs_break.Given as goal
 
 abbrev pub invariant-loop-q : goal.invariant-loop-q
 invariant-loop-q l =
-    (l.n ≡ state_count l.file) × (l.k ≡ symbol_count l.file) × (l.q ≤ l.n) × (l.n < 256) × (10 + 4 * l.n ≤ length l.file) × (bad_pairs l.file ≡ false)
+    (l.n ≡ state_count l.file) × (l.k ≡ symbol_count l.file) × (l.n < 256) × (10 + 4 * l.n ≤ length l.file) × (bad_pairs l.file ≡ false)
     × (any_below (λ p. bad_section (state_count l.file) (symbol_count l.file) (section l.file p)) l.q ≡ false)
-
-abbrev pub decreases-loop-q : goal.decreases-loop-q
-decreases-loop-q l = l.n - l.q

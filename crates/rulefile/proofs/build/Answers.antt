@@ -33,20 +33,20 @@ pub loop-q-init : goal.loop-q-init
 loop-q-init c =
     let f = c.args.file.now in
     let a = accepted f c.requires in
-    (refl, omega arith, a.states.1, a.room, c.requires, refl, no_section f 512)
+    (refl, a.states.1, a.room, c.requires, refl, no_section f 512)
 
 pub slice_bounds-store_arcs-end : goal.slice_bounds-store_arcs-end
 slice_bounds-store_arcs-end c =
     let x = c.loop-q in
     let f = c.args.file.now in
-    omega (arith, within f (accepted f x.invariant.4).pairs x.q (omega arith), c.half-from.ensures.0, c.half-len.ensures.0)
+    omega (arith, within f (accepted f x.invariant.3).pairs x.q (omega arith), c.half-from.ensures.0, c.half-len.ensures.0)
 
 pub store_arcs-requires : goal.store_arcs-requires
 store_arcs-requires c =
     let x = c.loop-q in
     let f = c.args.file.now in
     let part = section_part f x.q c.half-from.result c.half-len.result c.half-from.ensures.0 c.half-len.ensures.0 in
-    (omega arith, x.invariant.5, ap (bad_section 32 16) part ∙ tabled f (accepted f x.invariant.4) x.q (omega arith))
+    (omega arith, x.invariant.4, ap (bad_section 32 16) part ∙ tabled f (accepted f x.invariant.3) x.q (omega arith))
 
 pub loop-q-preserved : goal.loop-q-preserved
 loop-q-preserved c =
@@ -55,12 +55,11 @@ loop-q-preserved c =
     let part = section_part f x.q c.half-from.result c.half-len.result c.half-from.ensures.0 c.half-len.ensures.0 in
     let w = c.store_arcs.ensures in (
       x.invariant.0,
-      omega arith,
+      x.invariant.1,
       x.invariant.2,
       x.invariant.3,
-      x.invariant.4,
       w.0,
-      section_stored f x.targets c.store_arcs.new.targets x.q x.invariant.6
+      section_stored f x.targets c.store_arcs.new.targets x.q x.invariant.5
           (λ cell. w.1 cell ∙ ap (λ (l : List ℕ). bit_or (get_or x.targets cell 0) (cond (eqb (cell / 16) x.q) (targets_by l (cell % 16)) 0)) part),
     )
 
@@ -69,7 +68,7 @@ returns c =
     let x = c.loop-q in
     let f = c.args.file.now in
     let e : x.q ≡ state_count f = omega arith in
-    let table = is_list_from x.targets 512 (λ cell. targets_from f (cell / 16) (cell % 16)) x.invariant.5 (λ cell h. x.invariant.6 cell ∙ ap (λ (q : ℕ). cell_up_to f q cell) e) in
+    let table = is_list_from x.targets 512 (λ cell. targets_from f (cell / 16) (cell % 16)) x.invariant.4 (λ cell h. x.invariant.5 cell ∙ ap (λ (q : ℕ). cell_up_to f q cell) e) in
     λ i. record {
       n = state_count f;
       k = symbol_count f;

@@ -18,7 +18,7 @@ loop-q-init c =
     let e = c.byte-n.ensures in
     let f = c.args.file.now in
     let h = c.requires in
-    (e.0, omega arith, e.1, omega (arith, e.0, h.1), ap (λ (x : ℕ). 10 + 4 * x) e.0, none_yet (bad_pair f))
+    (e.0, e.1, omega (arith, e.0, h.1), ap (λ (x : ℕ). 10 + 4 * x) e.0, none_yet (bad_pair f))
 
 pub returns-then-offset-due : goal.returns-then-offset-due
 returns-then-offset-due c =
@@ -27,7 +27,7 @@ returns-then-offset-due c =
     let h = c.half-offset in
     sym
     (pairs_at f x.q (omega (arith, x.invariant.0))
-    (bad_offset f x.q (λ e. c.if-offset-due.true (h.ensures.0 ∙ e ∙ sym x.invariant.4))))
+    (bad_offset f x.q (λ e. c.if-offset-due.true (h.ensures.0 ∙ e ∙ sym x.invariant.3))))
 
 pub returns-then-len-ne0 : goal.returns-then-len-ne0
 returns-then-len-ne0 c =
@@ -44,12 +44,11 @@ loop-q-preserved c =
     let h = c.half-offset in
     let l = c.half-len in (
       x.invariant.0,
-      omega arith,
+      x.invariant.1,
       x.invariant.2,
-      x.invariant.3,
       rw add-one (ap₂ (λ (y z : ℕ). y + z) h.ensures.0 l.ensures.0),
-      none_more (bad_pair f) x.q x.invariant.5
-          (good_pair f x.q (sym h.ensures.0 ∙ c.if-offset-due.false ∙ x.invariant.4) (ap (λ (y : ℕ). y % 2) (sym l.ensures.0) ∙ c.if-len-ne0.false)),
+      none_more (bad_pair f) x.q x.invariant.4
+          (good_pair f x.q (sym h.ensures.0 ∙ c.if-offset-due.false ∙ x.invariant.3) (ap (λ (y : ℕ). y % 2) (sym l.ensures.0) ∙ c.if-len-ne0.false)),
     )
 
 pub returns : goal.returns
@@ -58,4 +57,4 @@ returns c =
     let f = c.args.file.now in
     let e : x.q ≡ state_count f = omega (arith, x.invariant.0) in
     sym
-    (pairs_end f (rw e at x.invariant.5) ∙ ap (λ (y : ℕ). not (eqb y (length f))) (sym (x.invariant.4 ∙ ap (due_at f) e)))
+    (pairs_end f (rw e at x.invariant.4) ∙ ap (λ (y : ℕ). not (eqb y (length f))) (sym (x.invariant.3 ∙ ap (due_at f) e)))

@@ -11,7 +11,7 @@ use mathlib.Core.Path.{◌≡◌, refl, sym, ap, ap₂, ◌∙◌}
 use Rattle.rulefile.proofs.section_breaks.Goals as goal
 
 pub loop-i-init : goal.loop-i-init
-loop-i-init c = let a = c.args in (omega arith, refl, none_yet (bad_arc a.n a.k a.section.now))
+loop-i-init c = let a = c.args in (refl, none_yet (bad_arc a.n a.k a.section.now))
 
 pub returns-then-k-symbol : goal.returns-then-k-symbol
 returns-then-k-symbol c =
@@ -39,7 +39,7 @@ returns-then-arc-past c =
     (section_at a.n a.k a.section.now x.i (omega arith)
     (bad_order a.n a.k a.section.now x.i
     (λ j. (c.type_inv.section (2 * j + 1)).fits)
-    (omega (arith, x.invariant.1, s, t))))
+    (omega (arith, x.invariant.0, s, t))))
 
 pub loop-i-preserved : goal.loop-i-preserved
 loop-i-preserved c =
@@ -47,14 +47,13 @@ loop-i-preserved c =
     let a = c.args in
     let s = c.byte-symbol.ensures.0 in
     let t = c.byte-target.ensures.0 in (
-      omega arith,
       ap₂ (λ (y z : ℕ). 256 * y + z + 1) s t ∙ ap (past_of a.section.now) (sym (add-one x.i)),
-      none_more (bad_arc a.n a.k a.section.now) x.i x.invariant.2
+      none_more (bad_arc a.n a.k a.section.now) x.i x.invariant.1
           (good_arc a.n a.k a.section.now x.i
           (λ j. (c.type_inv.section (2 * j + 1)).fits)
           (omega (arith, s))
           (omega (arith, t))
-          (omega (arith, x.invariant.1, s, t))),
+          (omega (arith, x.invariant.0, s, t))),
     )
 
 pub returns : goal.returns
@@ -62,4 +61,4 @@ returns c =
     let x = c.loop-i in
     let a = c.args in
     let e : x.i ≡ arc_count a.section.now = omega arith in
-    sym (section_end a.n a.k a.section.now (rw e at x.invariant.2))
+    sym (section_end a.n a.k a.section.now (rw e at x.invariant.1))

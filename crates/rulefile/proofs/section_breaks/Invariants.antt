@@ -3,15 +3,9 @@
 use Rattle.base.specs.Conditions.{any_below}
 use Rattle.ruleformat.proofs.Arcs.{past_of}
 use Rattle.ruleformat.specs.Refusals.{bad_arc}
-use Rattle.ruleformat.specs.Format.{arc_count}
-use Prim.Native.Nat.{◌-◌, ◌≤◌}
 use mathlib.Core.Bool.{false}
 use mathlib.Core.Path.{◌≡◌}
 use Rattle.rulefile.proofs.section_breaks.Given as goal
 
 abbrev pub invariant-loop-i : goal.invariant-loop-i
-invariant-loop-i l =
-    (l.i ≤ arc_count l.section) × (l.past ≡ past_of l.section l.i) × (any_below (bad_arc l.n l.k l.section) l.i ≡ false)
-
-abbrev pub decreases-loop-i : goal.decreases-loop-i
-decreases-loop-i l = l.count - l.i
+invariant-loop-i l = (l.past ≡ past_of l.section l.i) × (any_below (bad_arc l.n l.k l.section) l.i ≡ false)

@@ -15,42 +15,41 @@ pub loop-i-init : goal.loop-i-init
 loop-i-init c =
     let a = c.args in
     let h = c.requires in
-    (omega arith, omega arith, omega (arith, h.0), h.1, h.2, none_stored a.targets.now a.section.now (16 * a.q.0 / 16))
+    (omega arith, omega (arith, h.0), h.1, h.2, none_stored a.targets.now a.section.now (16 * a.q.0 / 16))
 
 pub bounds-targets-at : goal.bounds-targets-at
 bounds-targets-at c =
     let x = c.loop-i in
-    let s = bounds 32 16 c.args.section.now x.invariant.4 x.i (omega arith) in
-    omega (arith, s.0, c.byte.ensures.0, x.invariant.2)
+    let s = bounds 32 16 c.args.section.now x.invariant.3 x.i (omega arith) in
+    omega (arith, s.0, c.byte.ensures.0, x.invariant.1)
 
 pub singleton-requires : goal.singleton-requires
 singleton-requires c =
     let x = c.loop-i in
-    let s = bounds 32 16 c.args.section.now x.invariant.4 x.i (omega arith) in
+    let s = bounds 32 16 c.args.section.now x.invariant.3 x.i (omega arith) in
     s.1
 
 pub bounds-targets-at-in-loop-i : goal.bounds-targets-at-in-loop-i
 bounds-targets-at-in-loop-i c =
     let x = c.loop-i in
-    let s = bounds 32 16 c.args.section.now x.invariant.4 x.i (omega arith) in
-    omega (arith, s.0, c.byte.ensures.0, x.invariant.2)
+    let s = bounds 32 16 c.args.section.now x.invariant.3 x.i (omega arith) in
+    omega (arith, s.0, c.byte.ensures.0, x.invariant.1)
 
 pub loop-i-preserved : goal.loop-i-preserved
 loop-i-preserved c =
     let x = c.loop-i in
-    let s = bounds 32 16 c.args.section.now x.invariant.4 x.i (omega arith) in
+    let s = bounds 32 16 c.args.section.now x.invariant.3 x.i (omega arith) in
     let a = c.args in
     let at = 16 * a.q.0 + c.byte.result in
     let is : at ≡ 16 * (16 * a.q.0 / 16) + symbol_at a.section.now x.i = omega (arith, c.byte.ensures.0) in
     let new : c.union.result ≡ bit_or (get_or x.targets at 0) (single (target_at a.section.now x.i)) = c.union.ensures ∙ ap (bit_or (get_or x.targets at 0)) c.singleton.ensures in (
-      omega arith,
+      x.invariant.0,
       x.invariant.1,
-      x.invariant.2,
-      length-set x.targets at c.union.result ∙ x.invariant.3,
-      x.invariant.4,
+      length-set x.targets at c.union.result ∙ x.invariant.2,
+      x.invariant.3,
       λ cell.
           ap (λ (y : ℕ). get_or (set x.targets at y) cell 0) new
-          ∙ arc_stored a.targets.now a.section.now (16 * a.q.0 / 16) x.i at is s.0 x.targets (omega (arith, x.invariant.3, s.0)) x.invariant.5 cell,
+          ∙ arc_stored a.targets.now a.section.now (16 * a.q.0 / 16) x.i at is s.0 x.targets (omega (arith, x.invariant.2, s.0)) x.invariant.4 cell,
     )
 
 pub returns : goal.returns
@@ -59,4 +58,4 @@ returns c =
     let a = c.args in
     let row : 16 * a.q.0 / 16 ≡ a.q.0 = omega arith in
     let all : x.i ≡ arc_count a.section.now = omega arith in
-    (x.invariant.3, λ cell. x.invariant.5 cell ∙ ap₂ (λ (p j : ℕ). cell_after a.targets.now a.section.now p j cell) row all)
+    (x.invariant.2, λ cell. x.invariant.4 cell ∙ ap₂ (λ (p j : ℕ). cell_after a.targets.now a.section.now p j cell) row all)

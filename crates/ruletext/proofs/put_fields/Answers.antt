@@ -11,7 +11,7 @@ use Rattle.ruletext.proofs.put_fields.Goals as goal
 pub loop-q-init : goal.loop-q-init
 loop-q-init c =
     let a = c.args in
-    (omega arith, c.requires.1, none_put (λ i. delegate_text (delegate_in a.delegates.now i)) a.out.now a.start (omega (arith, c.requires)))
+    (c.requires.1, none_put (λ i. delegate_text (delegate_in a.delegates.now i)) a.out.now a.start (omega (arith, c.requires)))
 
 pub put_delegate-at-requires : goal.put_delegate-at-requires
 put_delegate-at-requires c =
@@ -26,17 +26,16 @@ loop-q-preserved c =
     let l = fields_most d x.q in
     let m = delegate_most d x.q in
     let w = rw c.delegate_at-delegate.ensures at c.put_delegate-at.ensures in (
-      omega (arith, t),
-      x.invariant.1,
-      one_more (λ i. delegate_text (delegate_in d i)) x.q x.invariant.2 (put (omega (arith, x.invariant, t, l, m)) w),
+      x.invariant.0,
+      one_more (λ i. delegate_text (delegate_in d i)) x.q x.invariant.1 (put (omega (arith, x.invariant, t, l, m)) w),
     )
 
 pub shape_of-out : goal.shape_of-out
-shape_of-out c = c.loop-q.invariant.2.kept
+shape_of-out c = c.loop-q.invariant.1.kept
 
 pub returns : goal.returns
 returns c =
     let x = c.loop-q in
     let a = c.args in
     let e : x.q ≡ a.n = omega (arith, x.invariant, c.loop-q-test.false) in
-    (rw e at x.invariant.2.wrote, omega (arith, x.invariant, fields_most a.delegates.now x.q))
+    (rw e at x.invariant.1.wrote, omega (arith, x.invariant, fields_most a.delegates.now x.q))

@@ -1,6 +1,6 @@
 -- `put_fields` meets its contract. The loop's invariant: the delegates of the first q states are
 -- written. Assumes nothing.
-use Prim.Native.Nat.{◌+◌, ◌*◌, ◌-◌, ◌≤◌}
+use Prim.Native.Nat.{◌+◌, ◌*◌, ◌≤◌}
 use lib.ListN.{length}
 use Rattle.base.specs.Lists.{joined}
 use Rattle.delegates.specs.Alike.{delegate_in}
@@ -10,7 +10,4 @@ use Rattle.ruletext.proofs.put_fields.Given as goal
 
 abbrev pub invariant-loop-q : goal.invariant-loop-q
 invariant-loop-q l =
-    (l.q ≤ l.n) × (l.start + 4 * l.n ≤ length l.initial.out) × Put l.initial.out l.start (joined (λ i. delegate_text (delegate_in l.delegates i)) l.q) l.out l.at
-
-abbrev pub decreases-loop-q : goal.decreases-loop-q
-decreases-loop-q l = l.n - l.q
+    (l.start + 4 * l.n ≤ length l.initial.out) × Put l.initial.out l.start (joined (λ i. delegate_text (delegate_in l.delegates i)) l.q) l.out l.at

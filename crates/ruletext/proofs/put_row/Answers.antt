@@ -12,7 +12,7 @@ use Rattle.ruletext.proofs.put_row.Goals as goal
 pub loop-s-init : goal.loop-s-init
 loop-s-init c =
     let a = c.args in
-    (omega arith, c.requires.0, c.requires.1, c.requires.2, none_put (λ t. cell_text (get_or a.next.now (a.i.0 * 16 + t) 0)) a.out.now a.start (omega (arith, c.requires)))
+    (c.requires.0, c.requires.1, c.requires.2, none_put (λ t. cell_text (get_or a.next.now (a.i.0 * 16 + t) 0)) a.out.now a.start (omega (arith, c.requires)))
 
 pub overflow_mul-to : goal.overflow_mul-to
 overflow_mul-to c = omega (arith, c.loop-s.invariant)
@@ -40,18 +40,17 @@ loop-s-preserved c =
     let t = c.loop-s-test.true in
     let r = row_most a.next.now x.s a.i.0 in
     let m = cell_most (get_or a.next.now (a.i.0 * 16 + x.s) 0) in (
-      omega (arith, t),
+      x.invariant.0,
       x.invariant.1,
       x.invariant.2,
-      x.invariant.3,
-      one_more (λ t. cell_text (get_or a.next.now (a.i.0 * 16 + t) 0)) x.s x.invariant.4 (put (omega (arith, x.invariant, t, r, m)) w.ensures),
+      one_more (λ t. cell_text (get_or a.next.now (a.i.0 * 16 + t) 0)) x.s x.invariant.3 (put (omega (arith, x.invariant, t, r, m)) w.ensures),
     )
 
 pub shape_of-out : goal.shape_of-out
-shape_of-out c = c.loop-s.invariant.4.kept
+shape_of-out c = c.loop-s.invariant.3.kept
 
 pub returns : goal.returns
 returns c =
     let x = c.loop-s in
     let e : x.s ≡ c.args.k = omega (arith, x.invariant, c.loop-s-test.false) in
-    rw e at x.invariant.4.wrote
+    rw e at x.invariant.3.wrote

@@ -1,6 +1,6 @@
 -- `put_sets` meets its contract. The loop's invariant: the lines of the first i sets are written.
 -- Assumes nothing.
-use Prim.Native.Nat.{◌+◌, ◌*◌, ◌-◌, ◌≤◌}
+use Prim.Native.Nat.{◌+◌, ◌*◌, ◌≤◌}
 use lib.ListN.{length}
 use Rattle.base.specs.Lists.{joined}
 use Rattle.ruletext.specs.RuleText.{set_line}
@@ -9,7 +9,5 @@ use Rattle.ruletext.proofs.put_sets.Given as goal
 
 abbrev pub invariant-loop-i : goal.invariant-loop-i
 invariant-loop-i l =
-    (l.i ≤ l.count) × (l.k ≤ 16) × (l.count ≤ 512) × (l.start + 77 * l.count ≤ length l.initial.out) × Put l.initial.out l.start (joined (set_line l.sets l.next l.k) l.i) l.out l.at
-
-abbrev pub decreases-loop-i : goal.decreases-loop-i
-decreases-loop-i l = l.count - l.i
+    (l.k ≤ 16) × (l.count ≤ 512) × (l.start + 77 * l.count ≤ length l.initial.out)
+    × Put l.initial.out l.start (joined (set_line l.sets l.next l.k) l.i) l.out l.at

@@ -2,11 +2,7 @@
 -- Assumes nothing.
 use Rattle.rulewriter.proofs.Parts.{Parts}
 use Rattle.rulewriter.specs.Written.{arc_to}
-use Prim.Native.Nat.{◌-◌}
 use Rattle.rulewriter.proofs.put_arcs.Given as goal
 
 abbrev pub invariant-loop-t : goal.invariant-loop-t
 invariant-loop-t l = Parts (arc_to l.mask l.symbol) l.n l.initial.out l.start l.out l.at l.t
-
-abbrev pub decreases-loop-t : goal.decreases-loop-t
-decreases-loop-t l = l.n - l.t

@@ -4,7 +4,7 @@ use Rattle.rulewriter.proofs.Parts.{Parts}
 use Rattle.rulewriter.specs.Written.{arcs_by}
 use Rattle.automaton.specs.Rules.{target_mask}
 use mathlib.Core.List.{List}
-use Prim.Native.Nat.{ℕ, ◌-◌}
+use Prim.Native.Nat.{ℕ}
 use Rattle.rulewriter.proofs.put_section.Given as goal
 
 -- the arcs of state q by symbol s
@@ -13,6 +13,3 @@ part ts n q s = arcs_by n (target_mask ts q s) s
 
 abbrev pub invariant-loop-s : goal.invariant-loop-s
 invariant-loop-s l = Parts (part l.targets l.n l.q.0) l.k l.initial.out l.start l.out l.at l.s
-
-abbrev pub decreases-loop-s : goal.decreases-loop-s
-decreases-loop-s l = l.k - l.s

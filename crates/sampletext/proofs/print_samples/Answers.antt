@@ -2,12 +2,9 @@
 use Rattle.sampletext.proofs.Lines.{file_read, file_refused}
 use Rattle.sampletext.proofs.print_samples.Goals as goal
 
-pub returns-in-Accepted : goal.returns-in-Accepted
-returns-in-Accepted c =
-    let y = c.read-reading in
-    rw (← file_read c.args.file.now y.result y.ensures c.in-Accepted.is) c.put_samples.ensures
+pub returns-in-Ok : goal.returns-in-Ok
+returns-in-Ok c = rw (← file_read c.args.file.now c.read.result c.read.ensures _ c.in-Ok.is) c.put_samples.ensures
 
-pub returns-in-Refused : goal.returns-in-Refused
-returns-in-Refused c =
-    let y = c.read-reading in
-    rw (← file_refused c.args.file.now y.result y.ensures c.in-Refused.number c.in-Refused.is) c.put_refused.ensures
+pub returns-in-Err : goal.returns-in-Err
+returns-in-Err c =
+    rw (← file_refused c.args.file.now c.read.result c.read.ensures _ c.in-Err.is, ← c.number.ensures) c.put_refused.ensures

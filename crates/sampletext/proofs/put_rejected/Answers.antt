@@ -5,4 +5,4 @@ use Rattle.sampletext.proofs.put_rejected.Goals as goal
 
 pub returns : goal.returns
 returns c =
-    rw (← sample_is c.args.rule Rejected c.find_sample-result.result c.find_sample-result.ensures) c.put_sample.ensures
+    rw (← sample_is c.args.rule Rejected c.find_sample-sample.result c.find_sample-sample.ensures) c.put_sample.ensures

@@ -1,14 +1,14 @@
 -- `find_sample` meets its contract: the check refuses the rule, or it is searched. Assumes nothing.
-use mathlib.Core.Path.{sym, ap, ◌∙◌}
-use Rattle.base.specs.Answers.{answer_number}
+use Rattle.std.proofs.Common.{sym}
+use Rattle.std.proofs.lemmas.Result.{err_from_is_err_and}
 use Rattle.rulecheck.proofs.Claims as check
 use Rattle.sampling.proofs.Ways.{find_refused}
 use Rattle.sampling.proofs.find_sample.Goals as goal
 
 pub search_sets-requires : goal.search_sets-requires
-search_sets-requires c =
-    ((check.claims).passes c.args.rule).0 (sym c.check_rule-checked.ensures ∙ ap answer_number c.in-Accepted.is)
+search_sets-requires c = ((check.claims).passes c.args.rule).0 (sym c.in_ok-check_rule.ensures)
 
-pub returns-in-Refused : goal.returns-in-Refused
-returns-in-Refused c =
-    find_refused c.args.rule c.args.wish _ _ (sym c.check_rule-checked.ensures ∙ ap answer_number c.in-Refused.is) c.give_none.ensures
+pub returns-in_err-check_rule : goal.returns-in_err-check_rule
+returns-in_err-check_rule c =
+    let p = err_from_is_err_and c.from_residual.result c.from_residual.ensures.1 in
+    rw (p.1, p.2) (find_refused c.args.rule c.args.wish _ (sym c.in_err-check_rule.ensures))

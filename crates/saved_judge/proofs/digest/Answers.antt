@@ -3,13 +3,13 @@
 use Rattle.saved_judge.proofs.Sums.{summed_begin, summed_more, summed_done}
 use Rattle.saved_judge.proofs.digest.Goals as goal
 
-pub loop-i-init : goal.loop-i-init
-loop-i-init c = summed_begin _ _ c.requires
+pub loop-byte-init : goal.loop-byte-init
+loop-byte-init c = summed_begin _
 
-pub loop-i-preserved : goal.loop-i-preserved
-loop-i-preserved c =
-    let x = c.loop-i in
-    summed_more _ _ x.next x.i x.invariant _ c.loop-i-test.true c.with_byte-next.ensures
+pub loop-byte-preserved : goal.loop-byte-preserved
+loop-byte-preserved c =
+    let x = c.loop-byte in
+    summed_more _ x.next x.byte-index x.invariant _ c.loop-byte-test.true c.with_byte-next.ensures
 
 pub returns : goal.returns
-returns c = let x = c.loop-i in summed_done _ _ x.next x.i x.invariant c.loop-i-test.false
+returns c = let x = c.loop-byte in summed_done _ x.next x.byte-index x.invariant c.loop-byte-test.false

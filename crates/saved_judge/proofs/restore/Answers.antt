@@ -3,16 +3,15 @@ use Rattle.std.proofs.Common.{sym, ◌∙◌}
 use Rattle.saved_judge.proofs.Ways.{size_right, accepted_is, refused_is}
 use Rattle.saved_judge.proofs.restore.Goals as goal
 
+pub returns-then-not-is_saved : goal.returns-then-not-is_saved
+returns-then-not-is_saved c = refused_is _ (sym c.is_saved.ensures ∙ c.if-not-is_saved.true)
+
 pub get_built-built-requires : goal.get_built-built-requires
-get_built-built-requires c = size_right _ (sym c.is_saved.ensures ∙ c.if-is_saved.true)
+get_built-built-requires c = size_right _ (sym c.is_saved.ensures ∙ c.if-not-is_saved.false)
 
 pub get_board-board-requires : goal.get_board-board-requires
-get_board-board-requires c = size_right _ (sym c.is_saved.ensures ∙ c.if-is_saved.true)
-
-pub returns-then-is_saved : goal.returns-then-is_saved
-returns-then-is_saved c =
-    accepted_is _ _ _ (sym c.is_saved.ensures ∙ c.if-is_saved.true) c.get_built-built.ensures c.get_board-board.ensures
+get_board-board-requires c = size_right _ (sym c.is_saved.ensures ∙ c.if-not-is_saved.false)
 
 pub returns : goal.returns
 returns c =
-    refused_is _ _ _ (sym c.is_saved.ensures ∙ c.if-is_saved.false) c.nothing_built-built.ensures c.empty_board-board.ensures
+    accepted_is _ _ _ (sym c.is_saved.ensures ∙ c.if-not-is_saved.false) c.get_built-built.ensures c.get_board-board.ensures

@@ -15,7 +15,7 @@ pub loop-q-init : goal.loop-q-init
 unfolding keys_up_to
 loop-q-init c =
     let a = c.args in
-    (c.at_most_u8-q-end.ensures, omega arith, omega arith, refl, begin (set_walk a.targets.now a.k) 512 a.sets.now a.next.now c.requires)
+    (c.min-q-end.ensures, omega arith, omega arith, refl, begin (set_walk a.targets.now a.k) 512 a.sets.now a.next.now c.requires)
 
 pub add-requires : goal.add-requires
 add-requires c =
@@ -24,13 +24,14 @@ add-requires c =
     let a = c.args in
     record { count_le_most_sets = (x.invariant.2, not_empty one.result x.q one.ensures, x.invariant.4); in_row = in_row a.targets.now a.k }
 
-pub returns-in-Over : goal.returns-in-Over
-returns-in-Over c =
+pub returns-in_err-count : goal.returns-in_err-count
+returns-in_err-count c =
     let w = c.add in
     let one = c.singleton-set in
     let x = c.loop-q in
     let a = c.args in
-    states_over a.targets.now a.k x.q one.result one.ensures (take x.count x.sets) x.invariant.3 w.result _ _ w.ensures c.in-Over.is a.n (omega arith)
+    rw c.from_residual.ensures
+    (states_over a.targets.now a.k x.q one.result one.ensures (take x.count x.sets) x.invariant.3 w.result _ _ w.ensures c.in_err-count.was a.n (omega arith))
 
 pub loop-q-preserved : goal.loop-q-preserved
 loop-q-preserved c =
@@ -38,7 +39,7 @@ loop-q-preserved c =
     let one = c.singleton-set in
     let x = c.loop-q in
     let a = c.args in
-    let m = states_more a.targets.now a.k x.q one.result one.ensures (take x.count x.sets) x.invariant.3 w.result w.new.keys w.new.next w.ensures c.in-Whole.after c.in-Whole.is in
+    let m = states_more a.targets.now a.k x.q one.result one.ensures (take x.count x.sets) x.invariant.3 w.result w.new.keys w.new.next w.ensures c.in_ok-count.count c.in_ok-count.was in
     (x.invariant.0, omega arith, m.0, m.1, m.2)
 
 pub returns : goal.returns

@@ -14,12 +14,12 @@ loop-i-preserved c =
     let x = c.loop-i in
     let a = c.args in (
       omega arith,
-      length-set x.masks x.i c.lower.result ∙ x.invariant.1,
-      cell_stored x.masks (λ j. get_or a.sets.now j 0 % 2 ^ 32) x.i c.lower.result (omega (arith, x.invariant.1)) c.lower.ensures x.invariant.2,
+      length-set x.mask-items x.i c.lower.result ∙ x.invariant.1,
+      cell_stored x.mask-items (λ j. get_or a.sets.now j 0 % 2 ^ 32) x.i c.lower.result (omega (arith, x.invariant.1)) c.lower.ensures x.invariant.2,
     )
 
 pub returns : goal.returns
 returns c =
     let x = c.loop-i in
     let a = c.args in
-    is_list_from x.masks 512 (λ j. get_or a.sets.now j 0 % 2 ^ 32) x.invariant.1 (λ j h. x.invariant.2 j (omega arith))
+    is_list_from x.mask-items 512 (λ j. get_or a.sets.now j 0 % 2 ^ 32) x.invariant.1 (λ j h. x.invariant.2 j (omega arith))

@@ -15,12 +15,12 @@ loop-q-preserved c =
     let x = c.loop-q in
     let a = c.args in (
       omega arith,
-      length-set x.singles x.q c.number_single-number.result.0 ∙ x.invariant.1,
-      cell_stored x.singles (singleton_number a.sets.now a.count) x.q c.number_single-number.result.0 (omega (arith, x.invariant.1)) c.number_single-number.ensures x.invariant.2,
+      length-set x.single-items x.q c.number_single-number.result.0 ∙ x.invariant.1,
+      cell_stored x.single-items (singleton_number a.sets.now a.count) x.q c.number_single-number.result.0 (omega (arith, x.invariant.1)) c.number_single-number.ensures x.invariant.2,
     )
 
 pub returns : goal.returns
 returns c =
     let x = c.loop-q in
     let a = c.args in
-    is_list_from x.singles 32 (singleton_number a.sets.now a.count) x.invariant.1 (λ p h. x.invariant.2 p (omega arith))
+    is_list_from x.single-items 32 (singleton_number a.sets.now a.count) x.invariant.1 (λ p h. x.invariant.2 p (omega arith))

@@ -2,16 +2,14 @@
 -- there are more than 512 (9), and, where there are not, both arrays whole, each cell that is not
 -- in use too, and the number of each singleton. A refusal carries zeros.
 --
---   NumberingReply, numbering_means      document 01's answer: the number of sets, or refused with
---                                        a number; and what each case of the code's answer says
---   Table, table_outcome  the answer, with the arrays beside it; and the outcome that the code's
---                         result stands for
+--   NumberingReply     document 01's answer: the number of sets, or refused with a number
+--   Table, table_outcome  the answer, with the arrays beside it; and the outcome that each case of
+--                         the code's answer stands for
 --   no_table           refused with 9: zeros
 --   table_of ts n k     the table of a rule with the targets ts, n states and k symbols
-use Rattle.std.specs.Prelude.{cond, List, ℕ, length, replicate}
+use Rattle.std.specs.Prelude as code
+use Rattle.std.specs.Prelude.{Some, None, cond, List, ℕ, length, replicate}
 use Rattle.limits.specs.Limits.{most_states, most_sets, table_cells}
-use Rattle.subsets.specs.declared.Numbering.{Numbering}
-use Rattle.subsets.specs.declared.Numbering.TheVariants.{Whole, Over}
 use Rattle.subsets.specs.declared.SetTable.{SetTable}
 use Rattle.subsets.specs.Sets.{sets_of, too_many, set_cells, next_cells}
 use Rattle.subsets.specs.mirror.Singles.{singles_of}
@@ -20,18 +18,11 @@ pub data NumberingReply : Type 0 where
   counted : ℕ → NumberingReply
   refused : ℕ → NumberingReply
 
-abbrev pub numbering_means : Numbering → NumberingReply
-numbering_means (Whole c) = counted c
-numbering_means Over = refused 9
-
 pub record Table : Type 0 where
   pub reply : NumberingReply
   pub sets : List ℕ
   pub next : List ℕ
   pub singles : List ℕ
-
-abbrev pub table_outcome : SetTable → Table
-table_outcome t = record { reply = numbering_means t.answer; sets = t.sets; next = t.next; singles = t.singles }
 
 abbrev pub no_table : Table
 no_table = record {
@@ -40,6 +31,10 @@ no_table = record {
   next = replicate table_cells 0;
   singles = replicate most_states 0;
 }
+
+abbrev pub table_outcome : code.Option SetTable → Table
+table_outcome (Some t) = record { reply = counted t.count; sets = t.sets; next = t.next; singles = t.singles }
+table_outcome None = no_table
 
 unfoldable pub table_of : List ℕ → ℕ → ℕ → Table
 table_of ts n k =

@@ -33,5 +33,6 @@ pub returns : goal.returns
 returns c =
     let x = c.loop-i in
     let a = c.args in
+    let e : x.i ≡ length a.bytes.now = omega arith in
     let all : take x.i a.bytes.now ≡ a.bytes.now = take_all x.i a.bytes.now (omega arith) in
-    rw all at x.invariant.3
+    rw (all, e) at x.invariant.3

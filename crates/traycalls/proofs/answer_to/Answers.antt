@@ -1,13 +1,18 @@
 -- `answer_to` meets its contract. Assumes nothing.
+use Rattle.std.proofs.lemmas.Result.{err_from_is_err_and}
 use Rattle.trays.proofs.Ways.{unchecked, unbuilt, built}
-use borrow.Author.Rules.{rules}
 use Rattle.traycalls.proofs.answer_to.Goals as goal
 
-pub returns-in-Refused : goal.returns-in-Refused
-returns-in-Refused c = search (rules, unchecked)
+pub returns-in_err-check_rule : goal.returns-in_err-check_rule
+returns-in_err-check_rule c =
+    let p = err_from_is_err_and c.from_residual.result c.from_residual.ensures.1 in
+    rw (p.1, p.2) (unchecked c.args.rule _ c.in_err-check_rule.ensures)
 
-pub returns-in-Refused-answer : goal.returns-in-Refused-answer
-returns-in-Refused-answer c = search (rules, unbuilt)
+pub returns-in_err-built : goal.returns-in_err-built
+returns-in_err-built c =
+    let r = c.from_residual-in_err-built in
+    let p = err_from_is_err_and r.result r.ensures.1 in
+    rw (p.1, p.2) (unbuilt c.args.rule c.in_ok-check_rule.ensures _ c.in_err-built.ensures)
 
-pub returns-in-Accepted-answer : goal.returns-in-Accepted-answer
-returns-in-Accepted-answer c = search (rules, built)
+pub returns : goal.returns
+returns c = built c.args.rule c.in_ok-check_rule.ensures _ c.in_ok-built.ensures

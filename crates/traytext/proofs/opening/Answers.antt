@@ -10,8 +10,8 @@ returns-then-line-space c = (refl, search (rules, open_alone))
 pub returns-in_default : goal.returns-in_default
 returns-in_default c = (refl, search (rules, open_first))
 
-pub returns-in-Value-second : goal.returns-in-Value-second
-returns-in-Value-second c = (refl, search (rules, open_value))
+pub returns-in-Some-read_number : goal.returns-in-Some-read_number
+returns-in-Some-read_number c = (refl, search (rules, open_value))
 
-pub returns-in-Malformed : goal.returns-in-Malformed
-returns-in-Malformed c = (refl, search (rules, open_second))
+pub returns-in-None : goal.returns-in-None
+returns-in-None c = (refl, search (rules, open_second))

@@ -4,8 +4,8 @@ use mathlib.Core.Path.{refl}
 use borrow.Author.Rules.{rules}
 use Rattle.traytext.proofs.withdrawal.Goals as goal
 
-pub returns-in-Value : goal.returns-in-Value
-returns-in-Value c = (refl, λ w. search (rules, withdraw_value))
+pub returns-in-Some : goal.returns-in-Some
+returns-in-Some c = (refl, λ w. search (rules, withdraw_value))
 
-pub returns-in-Malformed : goal.returns-in-Malformed
-returns-in-Malformed c = (refl, λ w. search (rules, withdraw_malformed))
+pub returns-in-None : goal.returns-in-None
+returns-in-None c = (refl, λ w. search (rules, withdraw_malformed))

@@ -8,7 +8,7 @@ use Rattle.trayverdict.proofs.column_set.Goals as goal
 
 pub loop-p-init : goal.loop-p-init
 unfolding rows_up_to column_of
-loop-p-init c = (omega arith, refl)
+loop-p-init c = refl
 
 pub column_after-reached-requires : goal.column_after-reached-requires
 column_after-reached-requires c = (
@@ -19,14 +19,12 @@ column_after-reached-requires c = (
 pub loop-p-preserved : goal.loop-p-preserved
 loop-p-preserved c =
     let x = c.loop-p in
-    let a = c.args in (
-      omega arith,
-      column_on a.targets.now a.initials a.column a.width a.rows.now a.cells.now x.p x.reached x.invariant.1
-          c.row_count-count.result c.row_count-count.ensures.0 c.column_after-reached.result c.column_after-reached.ensures,
-    )
+    let a = c.args in
+    column_on a.targets.now a.initials a.column a.width a.rows.now a.cells.now x.p x.reached x.invariant
+    c.row_count-count.result c.row_count-count.ensures.0 c.column_after-reached.result c.column_after-reached.ensures
 
 pub returns : goal.returns
 returns c =
     let x = c.loop-p in
     let e : x.p ≡ c.args.bands = omega arith in
-    rw (← e) x.invariant.1
+    rw (← e) x.invariant

@@ -9,7 +9,7 @@ use Rattle.trayverdict.proofs.columns_pass.Goals as goal
 
 pub loop-c-init : goal.loop-c-init
 unfolding columns_pass
-loop-c-init c = (omega arith, refl)
+loop-c-init c = refl
 
 pub column_set-set-requires : goal.column_set-set-requires
 column_set-set-requires c =
@@ -25,15 +25,13 @@ returns-then-not-meets c =
 pub loop-c-preserved : goal.loop-c-preserved
 loop-c-preserved c =
     let x = c.loop-c in
-    let a = c.args in (
-      omega arith,
-      columns_more a.rule (rows_up_to (band_in a.width a.rows.now a.cells.now) a.bands) x.c x.invariant.1
-          (rw (← c.column_set-set.ensures, ← c.meets.ensures) (c.if-not-meets.false)),
-    )
+    let a = c.args in
+    columns_more a.rule (rows_up_to (band_in a.width a.rows.now a.cells.now) a.bands) x.c x.invariant
+    (rw (← c.column_set-set.ensures, ← c.meets.ensures) (c.if-not-meets.false))
 
 pub returns : goal.returns
 returns c =
     let x = c.loop-c in
     let e : x.c ≡ c.args.width = omega arith in
-    let at_c = x.invariant.1 in
+    let at_c = x.invariant in
     rw e at (sym at_c)

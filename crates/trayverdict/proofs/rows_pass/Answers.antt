@@ -10,7 +10,7 @@ use Rattle.trayverdict.proofs.rows_pass.Goals as goal
 
 pub loop-p-init : goal.loop-p-init
 unfolding rows_up_to rows_pass
-loop-p-init c = (omega arith, refl)
+loop-p-init c = refl
 
 pub band_passes-requires : goal.band_passes-requires
 band_passes-requires c =
@@ -31,10 +31,10 @@ loop-p-preserved c =
     let at = band_in a.width a.rows.now a.cells.now in
     let here : rows_pass a.rule (at x.p) ≡ true =
     rw (← c.row_count-count.ensures.0, ← c.band_passes.ensures) (c.if-not-band_passes.false) in
-    (omega arith, pass_more a.rule at x.p ∙ rw (x.invariant.1, here))
+    (pass_more a.rule at x.p ∙ rw (x.invariant, here))
 
 pub returns : goal.returns
 returns c =
     let x = c.loop-p in
     let e : x.p ≡ c.args.bands = omega arith in
-    rw (← e) (sym x.invariant.1)
+    rw (← e) (sym x.invariant)

@@ -1,8 +1,0 @@
--- `put_withdraw` meets its contract. Assumes nothing.
-use Rattle.calltext.proofs.put_withdraw.Goals as goal
-
-pub returns-in-Accepted : goal.returns-in-Accepted
-returns-in-Accepted c = rw c.in-Accepted.is c.put_accepted.ensures
-
-pub returns-in-Refused : goal.returns-in-Refused
-returns-in-Refused c = rw c.in-Refused.is c.put_refused.ensures

@@ -1,7 +1,0 @@
--- `fresh` meets its contract. Assumes nothing.
-use Rattle.mapcalls.proofs.Ways.{fresh-is}
-use borrow.Author.Rules.{rules}
-use Rattle.mapcalls.proofs.fresh.Goals as goal
-
-pub returns : goal.returns
-returns c = search (rules, fresh-is)
