@@ -3,4 +3,5 @@ pub mod Options
 pub mod Lists
 pub mod Totals
 pub mod Conditions
+pub mod Refusals
 pub mod Claims

@@ -1,11 +1,15 @@
 -- The answer of a call that may be refused, and the number of each refusal (docs/REFUSALS.md).
 --
---   refusal_number r  the number of a refusal, as the papers give it
+--   is_named n        a refusal with a name has the number n
+--   refusal_number r  the number of a refusal, as the papers give it; of one without a name its own
 --   result_number a   the number of the refusal, or none where the call is accepted
 use Rattle.std.proofs.Math.Option.{Option, none, some}
-use Rattle.std.specs.Prelude.{Result, Ok, Err, ℕ}
+use Rattle.std.specs.Prelude.{Bool, cond, Result, Ok, Err, ℕ, ltb, leb, ◌&&◌}
 use Rattle.base.specs.declared.Refusal.{Refusal}
-use Rattle.base.specs.declared.Refusal.TheVariants.{TooShort, TooLong, StateCount, SymbolCount, CutPairs, StrayState, BadPairs, BadArcs, TooManySets, PlaceCount, NoPlace, LongChunk, ForeignByte, NoRule, NoBoard, NotDue, EmptyPlace, LongPattern, NoPattern, TooManyLetters, TooManyStates, TooManyMappings, TooManyReached, OtherSymbols, TooManyMerged, Width, NotRows, NoForm, NoSeed, BrokenSummary, OtherRule, MissingEnd, TooManyPairs, NotSaved}
+use Rattle.base.specs.declared.Refusal.TheVariants.{TooShort, TooLong, StateCount, SymbolCount, CutPairs, StrayState, BadPairs, BadArcs, TooManySets, PlaceCount, NoPlace, LongChunk, ForeignByte, NoRule, NoBoard, NotDue, EmptyPlace, LongPattern, NoPattern, TooManyLetters, TooManyStates, TooManyMappings, TooManyReached, OtherSymbols, TooManyMerged, Width, NotRows, NoForm, NoSeed, BrokenSummary, OtherRule, MissingEnd, TooManyPairs, NotSaved, Other}
+
+abbrev pub is_named : ℕ → Bool
+is_named n = cond (ltb n 20) (leb 1 n && leb n 13) (cond (ltb n 30) (leb n 23) (leb n 46))
 
 abbrev pub refusal_number : Refusal → ℕ
 refusal_number TooShort = 1
@@ -42,6 +46,7 @@ refusal_number OtherRule = 43
 refusal_number MissingEnd = 44
 refusal_number TooManyPairs = 45
 refusal_number NotSaved = 46
+refusal_number (Other n) = cond (is_named n) 0 n
 
 abbrev pub result_number : {T : Type 0} → Result T Refusal → Option ℕ
 result_number (Ok value) = none

@@ -3,7 +3,7 @@
 #![tactic(auto)]
 
 ghost use Rattle.std.specs.Prelude.{◌≡◌};
-ghost use Rattle.base.specs.Answers.{refusal_number};
+ghost use Rattle.base.specs.Answers.{is_named, refusal_number};
 
 // Why a call is refused. Each has a number, which programs print and C is given; docs/REFUSALS.md
 // says when it comes and what to do.
@@ -51,6 +51,8 @@ pub enum Refusal {
     // of a comparison, and of a saved judge
     TooManyPairs,
     NotSaved,
+    // of no call: a number that none of these has. Who writes or shows a refusal takes any number.
+    Other(u8),
 }
 
 impl Refusal {
@@ -92,6 +94,23 @@ impl Refusal {
             Refusal::MissingEnd => 44,
             Refusal::TooManyPairs => 45,
             Refusal::NotSaved => 46,
+            Refusal::Other(number) => {
+                // so that each number has one refusal
+                if is_named(number) { 0 } else { number }
+            }
         }
     }
+}
+
+// Whether a refusal with a name has the number.
+fn is_named(number: u8) -> bool
+    ensures { result ≡ is_named number }
+{
+    if number < 20 {
+        return 1 <= number && number <= 13;
+    }
+    if number < 30 {
+        return number <= 23;
+    }
+    number <= 46
 }
