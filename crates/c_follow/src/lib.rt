@@ -63,10 +63,11 @@ fn lost_at(lost: Option<u32>) -> u32
 fn in_numbers(answer: Result<Followed, Refusal>) -> FollowNumbers
     ensures { result ≡ follow_shown (follow_outcome answer) }
 {
+    let shown = flags::shown(&answer);
     match answer {
         Ok(followed) => FollowNumbers {
-            accepted: 1,
-            refused: 0,
+            accepted: shown.accepted,
+            refused: shown.refused,
             ends: flags::bit(followed.ends),
             lost: lost_flag(followed.lost),
             at: lost_at(followed.lost),
@@ -74,9 +75,9 @@ fn in_numbers(answer: Result<Followed, Refusal>) -> FollowNumbers
             expected: followed.expected,
             complete: flags::bit(followed.complete),
         },
-        Err(refusal) => FollowNumbers {
-            accepted: 0,
-            refused: refusal.number(),
+        Err(_) => FollowNumbers {
+            accepted: shown.accepted,
+            refused: shown.refused,
             ends: 0,
             lost: 0,
             at: 0,
@@ -105,18 +106,20 @@ pub fn bellbadger_follower_size() -> usize
 pub fn bellbadger_follower_prepare(rule: Rule) -> FollowerNumbers
     ensures { result ≡ prepare_shown (prepare_of rule) }
 {
-    match follow::prepare(rule) {
+    let prepared = follow::prepare(rule);
+    let shown = flags::shown(&prepared);
+    match prepared {
         Ok(follower) => FollowerNumbers {
-            accepted: 1,
-            refused: 0,
+            accepted: shown.accepted,
+            refused: shown.refused,
             follower,
         },
-        Err(refusal) => {
+        Err(_) => {
             let rule = rulefile::no_rule();
             let follower = Follower { rule, live: 0 };
             FollowerNumbers {
-                accepted: 0,
-                refused: refusal.number(),
+                accepted: shown.accepted,
+                refused: shown.refused,
                 follower,
             }
         }

@@ -31,17 +31,19 @@ pub struct TableNumbers {
 pub fn bellbadger_form(judge: Judge) -> FormNumbers
     ensures { result ≡ form_shown (made_of judge) }
 {
-    match formmaker::make_form(judge) {
+    let made = formmaker::make_form(judge);
+    let shown = flags::shown(&made);
+    match made {
         Ok(form) => FormNumbers {
-            accepted: 1,
-            refused: 0,
+            accepted: shown.accepted,
+            refused: shown.refused,
             form,
         },
-        Err(refusal) => {
+        Err(_) => {
             let form = formmaker::no_form();
             FormNumbers {
-                accepted: 0,
-                refused: refusal.number(),
+                accepted: shown.accepted,
+                refused: shown.refused,
                 form,
             }
         }
@@ -52,17 +54,19 @@ pub fn bellbadger_form(judge: Judge) -> FormNumbers
 pub fn bellbadger_form_back(form: Form) -> TableNumbers
     ensures { result ≡ table_shown (back_of form) }
 {
-    match formback::table_of(form) {
+    let back = formback::table_of(form);
+    let shown = flags::shown(&back);
+    match back {
         Ok(table) => TableNumbers {
-            accepted: 1,
-            refused: 0,
+            accepted: shown.accepted,
+            refused: shown.refused,
             table,
         },
-        Err(refusal) => {
+        Err(_) => {
             let table = formback::no_table();
             TableNumbers {
-                accepted: 0,
-                refused: refusal.number(),
+                accepted: shown.accepted,
+                refused: shown.refused,
                 table,
             }
         }

@@ -45,17 +45,19 @@ pub fn bellbadger_profile_size() -> usize
 pub fn bellbadger_profile_build(rule: Rule) -> BuildNumbers
     ensures { result ≡ build_shown (build_of rule) }
 {
-    match profile::build(rule) {
+    let built = profile::build(rule);
+    let shown = flags::shown(&built);
+    match built {
         Ok(profile) => BuildNumbers {
-            accepted: 1,
-            refused: 0,
+            accepted: shown.accepted,
+            refused: shown.refused,
             profile,
         },
-        Err(refusal) => {
+        Err(_) => {
             let profile = profile::nothing_built();
             BuildNumbers {
-                accepted: 0,
-                refused: refusal.number(),
+                accepted: shown.accepted,
+                refused: shown.refused,
                 profile,
             }
         }
@@ -66,17 +68,19 @@ pub fn bellbadger_profile_build(rule: Rule) -> BuildNumbers
 pub fn bellbadger_profile_run(profile: Profile, chunk: &[u8]) -> RunNumbers
     ensures { result ≡ run_shown (run_of profile chunk.now) }
 {
-    match profile::run(profile, chunk) {
+    let ran = profile::run(profile, chunk);
+    let shown = flags::shown(&ran);
+    match ran {
         Ok(mapping) => RunNumbers {
-            accepted: 1,
-            refused: 0,
+            accepted: shown.accepted,
+            refused: shown.refused,
             mapping,
         },
-        Err(refusal) => {
+        Err(_) => {
             let masks = [0u8; mappings::STATES];
             RunNumbers {
-                accepted: 0,
-                refused: refusal.number(),
+                accepted: shown.accepted,
+                refused: shown.refused,
                 mapping: Mapping { masks },
             }
         }

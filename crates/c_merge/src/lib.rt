@@ -21,17 +21,18 @@ pub struct MergeNumbers {
 pub fn in_numbers(merging: Result<Rule, Refusal>) -> MergeNumbers
     ensures { result ≡ merge_shown (merge_outcome merging) }
 {
+    let shown = flags::shown(&merging);
     match merging {
         Ok(rule) => MergeNumbers {
-            accepted: 1,
-            refused: 0,
+            accepted: shown.accepted,
+            refused: shown.refused,
             rule,
         },
-        Err(refusal) => {
+        Err(_) => {
             let rule = rulefile::no_rule();
             MergeNumbers {
-                accepted: 0,
-                refused: refusal.number(),
+                accepted: shown.accepted,
+                refused: shown.refused,
                 rule,
             }
         }

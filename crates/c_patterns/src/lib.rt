@@ -20,21 +20,23 @@ pub struct PatternNumbers {
 pub fn bellbadger_pattern(pattern: &[u8]) -> PatternNumbers
     ensures { result ≡ pattern_shown (pattern_of pattern.now) }
 {
-    match patternfile::write_pattern(pattern) {
+    let written = patternfile::write_pattern(pattern);
+    let shown = flags::shown(&written);
+    match written {
         Ok(file) => {
             let bytes = file.bytes;
             PatternNumbers {
-                accepted: 1,
-                refused: 0,
+                accepted: shown.accepted,
+                refused: shown.refused,
                 length: file.length as u16,
                 bytes,
             }
         }
-        Err(refusal) => {
+        Err(_) => {
             let bytes = [0u8; patterns::FILE];
             PatternNumbers {
-                accepted: 0,
-                refused: refusal.number(),
+                accepted: shown.accepted,
+                refused: shown.refused,
                 length: 0,
                 bytes,
             }

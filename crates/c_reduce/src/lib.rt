@@ -22,21 +22,23 @@ pub struct ReduceNumbers {
 pub fn bellbadger_reduce(rule: Rule) -> ReduceNumbers
     ensures { result ≡ reduce_shown (reduce_of rule) }
 {
-    match reduce::reduce(rule) {
+    let reducing = reduce::reduce(rule);
+    let shown = flags::shown(&reducing);
+    match reducing {
         Ok(reduced) => {
             let rule = reduced.rule;
             ReduceNumbers {
-                accepted: 1,
-                refused: 0,
+                accepted: shown.accepted,
+                refused: shown.refused,
                 installs: flags::bit(reduced.installs),
                 rule,
             }
         }
-        Err(refusal) => {
+        Err(_) => {
             let rule = rulefile::no_rule();
             ReduceNumbers {
-                accepted: 0,
-                refused: refusal.number(),
+                accepted: shown.accepted,
+                refused: shown.refused,
                 installs: 0,
                 rule,
             }

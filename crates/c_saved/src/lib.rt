@@ -29,19 +29,21 @@ pub fn bellbadger_save(judge: Judge) -> Saved
 pub fn bellbadger_restore(bytes: &[u8]) -> RestoreNumbers
     ensures { result ≡ restore_shown (restore_of bytes.now) }
 {
-    match saved_judge::restore(bytes) {
+    let restored = saved_judge::restore(bytes);
+    let shown = flags::shown(&restored);
+    match restored {
         Ok(judge) => RestoreNumbers {
-            accepted: 1,
-            refused: 0,
+            accepted: shown.accepted,
+            refused: shown.refused,
             judge,
         },
-        Err(refusal) => {
+        Err(_) => {
             let built = build::nothing_built();
             let board = board::empty_board(0);
             let judge = Judge { built, board };
             RestoreNumbers {
-                accepted: 0,
-                refused: refusal.number(),
+                accepted: shown.accepted,
+                refused: shown.refused,
                 judge,
             }
         }

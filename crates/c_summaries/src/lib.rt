@@ -63,17 +63,19 @@ fn no_summary() -> Summary
 pub fn bellbadger_summarize(judge: Judge, number: u64, chunk: &[u8]) -> SummaryNumbers
     ensures { result ≡ summary_shown (summarize_of judge number chunk.now) }
 {
-    match summaries::summarize(judge, number, chunk) {
+    let made = summaries::summarize(judge, number, chunk);
+    let shown = flags::shown(&made);
+    match made {
         Ok(summary) => SummaryNumbers {
-            accepted: 1,
-            refused: 0,
+            accepted: shown.accepted,
+            refused: shown.refused,
             summary,
         },
-        Err(refusal) => {
+        Err(_) => {
             let summary = no_summary();
             SummaryNumbers {
-                accepted: 0,
-                refused: refusal.number(),
+                accepted: shown.accepted,
+                refused: shown.refused,
                 summary,
             }
         }

@@ -15,7 +15,7 @@ pub struct MadeNumbers {
 pub fn bellbadger_make_text(k: usize, seed: u64, text: &mut [u8]) -> MadeNumbers
     ensures { MakesShown k seed text.old result text.new }
 {
-    let shown = flags::shown(madetexts::make_text(k, seed, text));
+    let shown = flags::shown(&madetexts::make_text(k, seed, text));
     MadeNumbers {
         accepted: shown.accepted,
         refused: shown.refused,

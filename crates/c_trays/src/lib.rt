@@ -94,7 +94,7 @@ pub fn bellbadger_tray_install_column(tray: Tray, rule: Rule) -> InstallNumbers
 fn call_numbers(res: CallResult) -> CallNumbers
     ensures { result ≡ call_shown (call_outcome res) }
 {
-    let shown = flags::shown(res.answer);
+    let shown = flags::shown(&res.answer);
     let tray = res.tray;
     CallNumbers {
         accepted: shown.accepted,

@@ -106,17 +106,19 @@ pub fn bellbadger_new() -> Judge
 pub fn bellbadger_read(file: &[u8]) -> ReadNumbers
     ensures { result ≡ read_shown (read_of file.now) }
 {
-    match rulefile::read(file) {
+    let reading = rulefile::read(file);
+    let shown = flags::shown(&reading);
+    match reading {
         Ok(rule) => ReadNumbers {
-            accepted: 1,
-            refused: 0,
+            accepted: shown.accepted,
+            refused: shown.refused,
             rule,
         },
-        Err(refusal) => {
+        Err(_) => {
             let rule = rulefile::no_rule();
             ReadNumbers {
-                accepted: 0,
-                refused: refusal.number(),
+                accepted: shown.accepted,
+                refused: shown.refused,
                 rule,
             }
         }
@@ -162,7 +164,7 @@ pub fn bellbadger_load(judge: Judge, file: &[u8]) -> InstallNumbers
 fn call_numbers(res: CallResult) -> CallNumbers
     ensures { result ≡ call_shown (call_outcome res) }
 {
-    let shown = flags::shown(res.answer);
+    let shown = flags::shown(&res.answer);
     let judge = res.judge;
     CallNumbers {
         accepted: shown.accepted,

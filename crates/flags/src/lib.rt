@@ -25,12 +25,12 @@ pub fn bit(test: bool) -> u8
     0
 }
 
-// The fields of an answer.
-pub fn shown(answer: Result<(), Refusal>) -> AnswerFlags
-    ensures { (result.accepted ≡ flag_by (result_number answer)) × (result.refused ≡ refused_by (result_number answer)) }
+// The fields of an answer, whatever stands beside accepted.
+pub fn shown<T>(answer: &Result<T, Refusal>) -> AnswerFlags
+    ensures { (result.accepted ≡ flag_by (result_number answer.now)) × (result.refused ≡ refused_by (result_number answer.now)) }
 {
     match answer {
-        Ok(()) => AnswerFlags {
+        Ok(_) => AnswerFlags {
             accepted: 1,
             refused: 0,
         },

@@ -2,7 +2,7 @@
 use Rattle.c_follow.proofs.in_numbers.Goals as goal
 
 pub returns-in-Ok : goal.returns-in-Ok
-returns-in-Ok c = rw (c.in-Ok.is, c.bit.ensures, c.lost_flag.ensures, c.lost_at.ensures, c.bit-in-Ok.ensures)
+returns-in-Ok c = rw (c.shown-shown.ensures.0, c.shown-shown.ensures.1, c.in-Ok.is, c.bit.ensures, c.lost_flag.ensures, c.lost_at.ensures, c.bit-in-Ok.ensures)
 
 pub returns-in-Err : goal.returns-in-Err
-returns-in-Err c = rw (c.in-Err.is, c.number.ensures)
+returns-in-Err c = rw (c.shown-shown.ensures.0, c.shown-shown.ensures.1, c.in-Err.is)

@@ -4,7 +4,8 @@ use Rattle.c_form.specs.Numbers.{form_shown}
 use Rattle.c_form.proofs.bellbadger_form.Goals as goal
 
 pub returns-in-Ok : goal.returns-in-Ok
-returns-in-Ok c = ap form_shown c.in-Ok.ensures
+returns-in-Ok c = rw (c.shown-shown.ensures.0, c.shown-shown.ensures.1, c.in-Ok.is) (ap form_shown (rw c.in-Ok.is at c.make_form-made.ensures))
 
 pub returns-in-Err : goal.returns-in-Err
-returns-in-Err c = rw (c.number.ensures, c.no_form-form.ensures) (ap form_shown c.in-Err.ensures)
+returns-in-Err c =
+    rw (c.shown-shown.ensures.0, c.shown-shown.ensures.1, c.in-Err.is, c.no_form-form.ensures) (ap form_shown (rw c.in-Err.is at c.make_form-made.ensures))
