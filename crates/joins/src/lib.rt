@@ -36,8 +36,12 @@ pub fn join_place(
     ensures { result ≡ union (λ q. of_delegate (held_in ends.now place) (delegate_in delegates.now q)) set n }
 {
     let mut joined: u32 = 0;
-    for q in 0..n {
+    let mut q: usize = 0;
+    // a loop by hand: it has counted on before the test, so that `continue` skips no more than q, and
+    // an edit can have it skip the rest
+    while q < n {
         let state = StateNumber(q as u8);
+        q += 1;
         if masks::member(set, state) {
             let DelegateAnswer::State(delegate) = delegates::delegate_at(delegates, state) else {
                 continue;

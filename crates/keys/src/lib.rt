@@ -120,14 +120,19 @@ pub fn find(keys: &[u64; limits::SETS], count: usize, key: u64) -> Option<KeyNum
     ensures { found_means result ≡ found_in (take count keys.now) key }
 {
     let most = count.min(limits::SETS);
-    let from = passed(keys, most, key);
+    let mut i = passed(keys, most, key);
     let cells: &[u64] = keys;
-    for i in from..most {
-        if cells[i] == key {
-            return Some(KeyNumber(i as u16));
+    // a loop by hand: the paper has the search yield its index by `break`, which no `for` does
+    let found = loop {
+        if i == most {
+            return None;
         }
-    }
-    None
+        if cells[i] == key {
+            break i;
+        }
+        i += 1;
+    };
+    Some(KeyNumber(found as u16))
 }
 
 // A key keeps the number it has among the first count, else it takes the next: its number, and how
@@ -205,12 +210,13 @@ fn expand(
 {
     let mut count = from;
     let mut i = first.0 as usize;
+    // a loop by hand: the list grows on the way; the paper has a label leave it at the 513th set
     'expand: loop {
         if i == count {
-            return Some(count);
+            break 'expand Some(count);
         }
         for symbol in 0..k {
-            count = step(
+            match step(
                 targets,
                 others,
                 kind,
@@ -220,7 +226,14 @@ fn expand(
                 count,
                 KeyNumber(i as u16),
                 symbol,
-            )?;
+            ) {
+                Some(after) => {
+                    count = after;
+                }
+                None => {
+                    break 'expand None;
+                }
+            }
         }
         i += 1;
     }

@@ -44,7 +44,7 @@ loop-symbol-preserved c =
     let l = take e.count e.keys in
     let below : i < length l = rw (count-is e.keys e.count e.invariant.0 e.invariant.3.keys_are) e.invariant.1 in
     let symbol : e.symbol < a.k = omega arith in
-    let m = turn_whole (walk_in a.kind a.omit a.targets.now a.others.now a.k) (free_by a.omit) l i e.symbol below symbol w.ensures (c.requires.in_row (get_or l i 0) e.symbol symbol) e.invariant.3 c.in_ok-count.count (ap option_of c.in_ok-count.was) in
+    let m = turn_whole (walk_in a.kind a.omit a.targets.now a.others.now a.k) (free_by a.omit) l i e.symbol below symbol w.ensures (c.requires.in_row (get_or l i 0) e.symbol symbol) e.invariant.3 c.in-Some.after (ap option_of c.in-Some.is) in
     (m.0, m.1, omega arith, m.2, e.invariant.4 ∙ m.3)
 
 pub expand-preserved : goal.expand-preserved
@@ -76,8 +76,8 @@ returns-then-i-count c =
       stopped = λ long. absurd (omega (arith, ap length whole, x.invariant.0));
     }
 
-pub returns-in_err-count : goal.returns-in_err-count
-returns-in_err-count c =
+pub returns-in-None : goal.returns-in-None
+returns-in-None c =
     let e = c.loop-symbol in
     let x = c.expand in
     let a = c.args in
@@ -87,9 +87,9 @@ returns-in_err-count c =
     let n₀ : length l₀ ≡ x.count = count-is x.keys x.count x.invariant.0 x.invariant.3.keys_are in
     let l = take e.count e.keys in
     let n : length l ≡ e.count = count-is e.keys e.count e.invariant.0 e.invariant.3.keys_are in
-    let over = ap option_of c.in_err-count.was in
+    let over = ap option_of c.in-None.is in
     let f = close_from w (512 + a.first.0 - x.i) x.i l₀ in
-    rw (c.from_residual.ensures, x.invariant.4)
+    rw x.invariant.4
     (record {
       grown = grown_over w (free_by a.omit) f s.new.keys s.new.next
           (row_over w (free_by a.omit) (512 + a.first.0) x.i e.symbol l₀ l (omega arith) (omega arith) e.invariant.4 (omega arith) (omega arith) s.ensures over);
