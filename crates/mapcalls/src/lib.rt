@@ -61,8 +61,8 @@ pub fn build(state: MapState, file: &[u8]) -> MapBuilding
 }
 
 // Runs a chunk on the profile.
-pub fn run(state: MapState, chunk: &[u8]) -> MapAnswer
-    ensures { reply_means result ≡ reply_of state (runs chunk.now) }
+pub fn run(state: &MapState, chunk: &[u8]) -> MapAnswer
+    ensures { reply_means result ≡ reply_of state.now (runs chunk.now) }
 {
     let Some(profile) = &state.profile else {
         return MapAnswer::Lacking;
@@ -81,13 +81,13 @@ pub fn compose(earlier: Mapping, later: Mapping) -> MapAnswer
 }
 
 // Whether the mapping says yes.
-pub fn ask(state: MapState, mapping: Mapping) -> MapAnswer
-    ensures { reply_means result ≡ reply_of state (asks mapping.masks) }
+pub fn ask(state: &MapState, mapping: Mapping) -> MapAnswer
+    ensures { reply_means result ≡ reply_of state.now (asks mapping.masks) }
 {
-    let Some(profile) = state.profile else {
+    let Some(profile) = &state.profile else {
         return MapAnswer::Lacking;
     };
-    if profile::says_yes(profile, mapping) {
+    if profile::says_yes(*profile, mapping) {
         return MapAnswer::Yes;
     }
     MapAnswer::No

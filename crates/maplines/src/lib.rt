@@ -50,9 +50,9 @@ fn say_reply(out: &mut [u8], reply: MapAnswer) -> Said
 
 // A field that says a chunk. The bytes go through the lent buffer; what is longer than the buffer is
 // refused by its length alone, so what does not fit is not missed.
-fn answer_run(state: MapState, field: &[u8], bytes: &mut [u8], out: &mut [u8]) -> Said
+fn answer_run(state: &MapState, field: &[u8], bytes: &mut [u8], out: &mut [u8]) -> Said
     requires { (bytes_room ≤ length bytes.old) × (most_answer ≤ length out.old) }
-    ensures says { Says state (run_by (parse_bytes field.now)) out.old out.new result }
+    ensures says { Says state.now (run_by (parse_bytes field.now)) out.old out.new result }
     ensures scratch { Scratch bytes.old bytes.new }
 {
     let Some(n) = fields::read_bytes(field, bytes) else {
@@ -81,9 +81,9 @@ fn answer_compose(line: &[u8], out: &mut [u8]) -> Said
 }
 
 // A field that says a mapping.
-fn answer_verdict(state: MapState, field: &[u8], out: &mut [u8]) -> Said
+fn answer_verdict(state: &MapState, field: &[u8], out: &mut [u8]) -> Said
     requires { most_answer ≤ length out.old }
-    ensures { Says state (ask_by (parse_mapping field.now)) out.old out.new result }
+    ensures { Says state.now (ask_by (parse_mapping field.now)) out.old out.new result }
 {
     let Some(mapping) = maptext::read_mapping(field) else {
         return say_malformed(out);
@@ -121,9 +121,9 @@ pub fn changes(line: &[u8]) -> bool
 
 // The answer to a line that leaves the profile as it is. The buffer is for the bytes that the line
 // carries.
-pub fn answer_line(state: MapState, line: &[u8], bytes: &mut [u8], out: &mut [u8]) -> Said
+pub fn answer_line(state: &MapState, line: &[u8], bytes: &mut [u8], out: &mut [u8]) -> Said
     requires { (bytes_room ≤ length bytes.old) × (most_answer ≤ length out.old) }
-    ensures says { Says state (ask_in line.now) out.old out.new result }
+    ensures says { Says state.now (ask_in line.now) out.old out.new result }
     ensures scratch { Scratch bytes.old bytes.new }
 {
     if lines::begins_with(line, b"run ") {
@@ -155,6 +155,6 @@ pub fn run_line(state: MapState, line: &[u8], bytes: &mut [u8], out: &mut [u8]) 
     if lines::begins_with(line, b"build ") {
         return answer_build(state, &line[6..], bytes, out);
     }
-    let said = answer_line(state, line, bytes, out);
+    let said = answer_line(&state, line, bytes, out);
     Answered { state, said }
 }

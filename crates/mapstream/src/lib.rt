@@ -55,7 +55,7 @@ fn say_skipped(out: &mut [u8], ended: bool) -> Said
 // The answer to a line that has ended and leaves the profile as it is, and whether the list has
 // ended.
 fn answer_held(
-    state: MapState,
+    state: &MapState,
     ended: bool,
     line: &[u8],
     held: Held,
@@ -63,8 +63,8 @@ fn answer_held(
     out: &mut [u8],
 ) -> Said
     requires { (changes_held line.now held ≡ false) × (bytes_room ≤ length bytes.old) × (most_answer ≤ length out.old) }
-    ensures ended_value { list_of state result.ended ≡ (held_step map_lines (list_of state ended) line.now held).state }
-    ensures text { Wrote out.old 0 (held_step map_lines (list_of state ended) line.now held).text out.new result.written }
+    ensures ended_value { list_of state.now result.ended ≡ (held_step map_lines (list_of state.now ended) line.now held).state }
+    ensures text { Wrote out.old 0 (held_step map_lines (list_of state.now ended) line.now held).text out.new result.written }
     ensures scratch { Scratch bytes.old bytes.new }
 {
     if linetexts::skips(ended, line, held) {
@@ -137,7 +137,7 @@ pub fn gather(
             continue;
         }
         if !changes_held(line, held) {
-            let said = answer_held(state, ended, line, held, bytes, &mut out[written..]);
+            let said = answer_held(&state, ended, line, held, bytes, &mut out[written..]);
             ended = said.ended;
             written += said.written;
             held = longlines::nothing();

@@ -14,13 +14,13 @@ slice_bounds-run-end-2 c = search (rules, put_prefix)
 pub returns-in_default : goal.returns-in_default
 returns-in_default c =
     record {
-      says = run_malformed _ _ _ _ c.in_default.ensures c.args.state refl _ _ _ c.say_malformed.ensures;
+      says = run_malformed _ _ _ _ c.in_default.ensures c.args.state.now refl _ _ _ c.say_malformed.ensures;
       scratch = search rules;
     }
 
 pub returns : goal.returns
 returns c =
     record {
-      says = run_put _ _ _ _ c.in-Some.ensures c.args.state c.requires.0 _ refl _ _ _ _ c.say_reply.ensures c.run.ensures;
+      says = run_put _ _ _ _ c.in-Some.ensures c.args.state.now c.requires.0 _ refl _ _ _ _ c.say_reply.ensures c.run.ensures;
       scratch = search rules;
     }

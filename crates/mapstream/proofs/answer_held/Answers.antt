@@ -19,4 +19,4 @@ returns c =
     let tested = c.skips.ensures in
     let left = c.if-skips.false in
     let stray = c.if-seen.false in
-    record { ended_value = stray_state a.state a.ended _ _ _ tested left _ look.ensures.value stray said.result.ended (said.ensures a.state).ended; text = stray_text a.state a.ended _ _ _ tested left _ look.ensures.value _ _ said.result stray said.ensures; scratch = search rules }
+    record { ended_value = stray_state a.state.now a.ended _ _ _ tested left _ look.ensures.value stray said.result.ended (said.ensures a.state.now).ended; text = stray_text a.state.now a.ended _ _ _ tested left _ look.ensures.value _ _ said.result stray said.ensures; scratch = search rules }
