@@ -8,12 +8,12 @@ use Rattle.compare.proofs.compare.Goals as goal
 pub returns-in_err-check_rule : goal.returns-in_err-check_rule
 returns-in_err-check_rule c =
     let p = err_from_is_err_and c.from_residual.result c.from_residual.ensures.1 in
-    rw (p.1, p.2) (compare_first c.args.one c.args.two _ (sym c.in_err-check_rule.ensures))
+    rw (p.1, p.2) (compare_first c.args.one c.args.two c.in_err-check_rule.field-0.0 (sym c.in_err-check_rule.ensures))
 
 pub returns-in_err-check_rule-2 : goal.returns-in_err-check_rule-2
 returns-in_err-check_rule-2 c =
     let p = err_from_is_err_and c.from_residual-in_err-check_rule-2.result c.from_residual-in_err-check_rule-2.ensures.1 in
-    rw (p.1, p.2) (compare_second c.args.one c.args.two (sym c.in_ok-check_rule.ensures) _ (sym c.in_err-check_rule-2.ensures))
+    rw (p.1, p.2) (compare_second c.args.one c.args.two (sym c.in_ok-check_rule.ensures) c.in_err-check_rule-2.field-0.0 (sym c.in_err-check_rule-2.ensures))
 
 pub returns-then-one-two : goal.returns-then-one-two
 returns-then-one-two c =

@@ -11,4 +11,4 @@ pub returns : goal.returns
 returns c = accepted c.args.form c.in_ok-check.ensures _ c.fill.ensures
 
 pub returns-in_err-check : goal.returns-in_err-check
-returns-in_err-check c = let e = refused c.args.form _ c.in_err-check.ensures in search (rules, e)
+returns-in_err-check c = let e = refused c.args.form c.in_err-check.field-0.0 c.in_err-check.ensures in search (rules, e)

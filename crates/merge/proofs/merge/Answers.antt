@@ -10,7 +10,7 @@ merged-requires c = merge_allowed c.args.way c.args.one c.args.two (sym c.in_ok-
 pub returns-in_err-check : goal.returns-in_err-check
 returns-in_err-check c =
     let p = err_from_is_err_and c.from_residual.result c.from_residual.ensures.1 in
-    rw (p.1, p.2) (merge_refused c.args.way c.args.one c.args.two _ (sym c.in_err-check.ensures))
+    rw (p.1, p.2) (merge_refused c.args.way c.args.one c.args.two c.in_err-check.field-0.0 (sym c.in_err-check.ensures))
 
 pub returns : goal.returns
 returns c = merge_accepted c.args.way c.args.one c.args.two (sym c.in_ok-check.ensures) _ c.merged.ensures

@@ -11,4 +11,4 @@ search_sets-requires c = ((check.claims).passes c.args.rule).0 (sym c.in_ok-chec
 pub returns-in_err-check_rule : goal.returns-in_err-check_rule
 returns-in_err-check_rule c =
     let p = err_from_is_err_and c.from_residual.result c.from_residual.ensures.1 in
-    rw (p.1, p.2) (find_refused c.args.rule c.args.wish _ (sym c.in_err-check_rule.ensures))
+    rw (p.1, p.2) (find_refused c.args.rule c.args.wish c.in_err-check_rule.field-0.0 (sym c.in_err-check_rule.ensures))

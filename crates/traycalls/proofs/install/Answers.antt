@@ -5,7 +5,7 @@ use Rattle.traycalls.proofs.install.Goals as goal
 pub returns-in-Err : goal.returns-in-Err
 returns-in-Err c =
     let a = c.args in
-    install_refused a.tray a.next a.rule _ c.in-Err.ensures
+    install_refused a.tray a.next a.rule c.in-Err.refusal c.in-Err.ensures
 
 pub returns-in-Ok : goal.returns-in-Ok
 returns-in-Ok c =
