@@ -8,14 +8,14 @@ pub returns-in_err-check_rule : goal.returns-in_err-check_rule
 returns-in_err-check_rule c =
     let a = c.args in
     let p = err_from_is_err_and c.from_residual.result c.from_residual.ensures.1 in
-    rw (p.1, p.2) (reduced_first a.way a.one a.two _ (sym c.in_err-check_rule.ensures))
+    rw (p.1, p.2) (reduced_first a.way a.one a.two c.in_err-check_rule.field-0.0 (sym c.in_err-check_rule.ensures))
 
 pub returns-in_err-check_rule-2 : goal.returns-in_err-check_rule-2
 returns-in_err-check_rule-2 c =
     let a = c.args in
     let r = c.from_residual-in_err-check_rule-2 in
     let p = err_from_is_err_and r.result r.ensures.1 in
-    rw (p.1, p.2) (reduced_second a.way a.one a.two (sym c.in_ok-check_rule.ensures) _ (sym c.in_err-check_rule-2.ensures))
+    rw (p.1, p.2) (reduced_second a.way a.one a.two (sym c.in_ok-check_rule.ensures) c.in_err-check_rule-2.field-0.0 (sym c.in_err-check_rule-2.ensures))
 
 pub returns-then-one-two : goal.returns-then-one-two
 returns-then-one-two c =

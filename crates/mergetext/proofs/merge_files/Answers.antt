@@ -7,7 +7,7 @@ pub returns-in_err-first-clause-answered : goal.returns-in_err-first-clause-answ
 returns-in_err-first-clause-answered c =
     let a = c.args in
     let p = err_from_is_err_and c.from_residual.result c.from_residual.ensures.1 in
-    rw (p.1, p.2) (merged_first a.way a.one.now a.two.now _ (read_refused a.one.now _ c.in_err-first.ensures))
+    rw (p.1, p.2) (merged_first a.way a.one.now a.two.now c.in_err-first.field-0.0 (read_refused a.one.now c.in_err-first.field-0.0 c.in_err-first.ensures))
 
 pub returns-in_err-second-clause-answered : goal.returns-in_err-second-clause-answered
 returns-in_err-second-clause-answered c =
@@ -15,7 +15,7 @@ returns-in_err-second-clause-answered c =
     let r = c.from_residual-in_err-second in
     let p = err_from_is_err_and r.result r.ensures.1 in
     let one = read_rule a.one.now c.in_ok-first.first c.in_ok-first.ensures in
-    rw (p.1, p.2) (merged_second a.way a.one.now a.two.now one.0 _ (read_refused a.two.now _ c.in_err-second.ensures))
+    rw (p.1, p.2) (merged_second a.way a.one.now a.two.now one.0 c.in_err-second.field-0.0 (read_refused a.two.now c.in_err-second.field-0.0 c.in_err-second.ensures))
 
 pub returns-clause-answered : goal.returns-clause-answered
 returns-clause-answered c =

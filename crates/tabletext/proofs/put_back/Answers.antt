@@ -9,4 +9,4 @@ pub returns-in-Ok : goal.returns-in-Ok
 returns-in-Ok c = rw (← table_text c.args.form _ c.in-Ok.ensures) c.put_table.ensures
 
 pub returns-in-Err : goal.returns-in-Err
-returns-in-Err c = rw (← refused_text_lem c.args.form _ c.in-Err.ensures, ← c.number.ensures) c.put_refused.ensures
+returns-in-Err c = rw (← refused_text_lem c.args.form c.in-Err.refusal c.in-Err.ensures, ← c.number.ensures) c.put_refused.ensures
