@@ -10,6 +10,6 @@ returns-in-Ok c =
 
 pub returns-in-Err : goal.returns-in-Err
 returns-in-Err c = (
-  rw (← refused_text_lem c.args.file.now _ c.in-Err.ensures, ← c.number.ensures) c.put_refused.ensures,
+  rw (← refused_text_lem c.args.file.now c.in-Err.refusal c.in-Err.ensures, ← c.number.ensures) c.put_refused.ensures,
   omega (arith, c.put_refused.ensures.ends, refused_most c.number.result (omega arith)),
 )

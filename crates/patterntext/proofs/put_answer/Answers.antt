@@ -47,4 +47,4 @@ returns-in-Ok c =
     (both (omega (arith, c.requires, digits_length (take f.length f.bytes))) c.put_digits-end.ensures (λ _. c.put_byte.ensures))
 
 pub returns-in-Err : goal.returns-in-Err
-returns-in-Err c = rw (← refused c.args.pattern.now _ c.in-Err.ensures, ← c.number.ensures) c.put_refused.ensures
+returns-in-Err c = rw (← refused c.args.pattern.now c.in-Err.refusal c.in-Err.ensures, ← c.number.ensures) c.put_refused.ensures

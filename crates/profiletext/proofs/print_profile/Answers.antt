@@ -6,4 +6,4 @@ pub returns-in-Ok : goal.returns-in-Ok
 returns-in-Ok c = rw (← built_text_lem c.args.file.now _ c.in-Ok.ensures) c.put_profile.ensures
 
 pub returns-in-Err : goal.returns-in-Err
-returns-in-Err c = rw (← refused_text_lem c.args.file.now _ c.in-Err.ensures, ← c.number.ensures) c.put_refused.ensures
+returns-in-Err c = rw (← refused_text_lem c.args.file.now c.in-Err.refusal c.in-Err.ensures, ← c.number.ensures) c.put_refused.ensures
