@@ -23,9 +23,9 @@
  *   310 KB  bellbadger_load
  *   275 KB  bellbadger_install
  *   235 KB  bellbadger_deliver
+ *   190 KB  bellbadger_tray_install_row, bellbadger_tray_install_column
  *   165 KB  bellbadger_locate
  *   150 KB  bellbadger_merge_reduced, bellbadger_summarize
- *   150 KB  bellbadger_tray_install_row, bellbadger_tray_install_column
  *   125 KB  bellbadger_withdraw, bellbadger_reduce
  *   115 KB  bellbadger_save, bellbadger_profile_run
  *   85 KB  any other function
