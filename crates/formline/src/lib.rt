@@ -15,7 +15,8 @@ const SYMBOLS_FIELD: u64 = 255;
 #[derive(Clone, Copy)]
 pub struct TooGreat;
 
-// The last field. Whether the numbers are too great is looked at once the whole line is read.
+// The last field, without which a line is malformed, whatever its numbers. Those are looked at
+// first: behind a test the cells would be copied once more.
 fn with_masks(
     sets: u64,
     symbols: u64,
@@ -25,13 +26,11 @@ fn with_masks(
 ) -> Option<Result<Form, TooGreat>>
     ensures { line_means result ≡ held_of (cells_in sets symbols failure kept field.now) }
 {
+    if SETS_FIELD < sets || SYMBOLS_FIELD < symbols {
+        wordfields::read_cells(field)?;
+        return Some(Err(TooGreat));
+    }
     let cells = wordfields::read_cells(field)?;
-    if SETS_FIELD < sets {
-        return Some(Err(TooGreat));
-    }
-    if SYMBOLS_FIELD < symbols {
-        return Some(Err(TooGreat));
-    }
     Some(Ok(Form {
         sets: sets as u16,
         symbols: symbols as u8,

@@ -1,4 +1,5 @@
 -- `check` meets its contract. Assumes nothing.
+use borrow.Author.Rules.{rules}
 use Rattle.std.proofs.Common.{sym}
 use Rattle.std.proofs.lemmas.Result.{err_from_is_err_and}
 use Rattle.merge.proofs.Ways.{check_first, check_second, small_both, check_36, check_37, check_none}
@@ -18,9 +19,7 @@ returns-in_err-check_rule-2 c =
     rw (p.1, p.2) (check_second a.way a.one a.two (sym c.in_ok-check_rule.ensures) _ (sym c.in_err-check_rule-2.ensures))
 
 pub returns-then-one-two : goal.returns-then-one-two
-returns-then-one-two c =
-    let a = c.args in
-    check_36 a.way a.one a.two (sym c.in_ok-check_rule.ensures) (sym c.in_ok-check_rule-2.ensures) c.if-one-two.true
+returns-then-one-two c = search (rules, check_36)
 
 pub states-requires : goal.states-requires
 states-requires c =
@@ -28,10 +27,7 @@ states-requires c =
     small_both a.way a.one a.two (sym c.in_ok-check_rule.ensures) (sym c.in_ok-check_rule-2.ensures)
 
 pub returns-then-states-gt-STATES : goal.returns-then-states-gt-STATES
-returns-then-states-gt-STATES c =
-    let a = c.args in
-    check_37 a.way a.one a.two (sym c.in_ok-check_rule.ensures) (sym c.in_ok-check_rule-2.ensures) c.if-one-two.false
-    c.states.result c.states.ensures c.if-states-gt-STATES.true
+returns-then-states-gt-STATES c = search (rules, check_37)
 
 pub returns : goal.returns
 returns c =
