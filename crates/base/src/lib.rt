@@ -51,7 +51,8 @@ pub enum Refusal {
     // of a comparison, and of a saved judge
     TooManyPairs,
     NotSaved,
-    // of no call: a number that none of these has. Who writes or shows a refusal takes any number.
+    // of no call: any other number, since who writes or shows a refusal takes any. Where a name above
+    // has the number, it is told as 0.
     Other(u8),
 }
 
@@ -95,7 +96,7 @@ impl Refusal {
             Refusal::TooManyPairs => 45,
             Refusal::NotSaved => 46,
             Refusal::Other(number) => {
-                // so that each number has one refusal
+                // so that the number of a name is told for that name alone
                 if is_named(number) { 0 } else { number }
             }
         }
