@@ -108,20 +108,14 @@ pub fn bellbadger_read(file: &[u8]) -> ReadNumbers
 {
     let reading = rulefile::read(file);
     let shown = flags::shown(&reading);
-    match reading {
-        Ok(rule) => ReadNumbers {
-            accepted: shown.accepted,
-            refused: shown.refused,
-            rule,
-        },
-        Err(_) => {
-            let rule = rulefile::no_rule();
-            ReadNumbers {
-                accepted: shown.accepted,
-                refused: shown.refused,
-                rule,
-            }
-        }
+    let rule = match reading {
+        Ok(rule) => rule,
+        Err(_) => rulefile::no_rule(),
+    };
+    ReadNumbers {
+        accepted: shown.accepted,
+        refused: shown.refused,
+        rule,
     }
 }
 
