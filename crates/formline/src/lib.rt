@@ -15,8 +15,8 @@ const SYMBOLS_FIELD: u64 = 255;
 #[derive(Clone, Copy)]
 pub struct TooGreat;
 
-// The last field. Where it says no cells the line is malformed, whatever its numbers. The numbers
-// are looked at first: with a test between reading the cells and the form they are copied once more.
+// The last field. Where it is malformed the line is, whatever its numbers. The numbers are looked at
+// first: with a test between reading the cells and making the form they are copied once more.
 fn with_masks(
     sets: u64,
     symbols: u64,
