@@ -6,6 +6,8 @@ use Rattle.base.specs.declared.Refusal.{Refusal}
 use Rattle.base.specs.Answers.{refusal_number, result_number}
 use Rattle.flags.specs.declared.AnswerFlags.{AnswerFlags}
 use Rattle.flags.specs.Flags.{flag_by, refused_by}
+use Rattle.automaton.specs.declared.Rule.{Rule}
+use Rattle.ruleformat.specs.Reader.{no_rule, Reading, read_outcome}
 use Rattle.calls.specs.declared.Sizes.{Sizes}
 use Rattle.calls.specs.declared.Report.{Report}
 use Rattle.calls.specs.declared.InstallResult.{InstallResult}
@@ -14,7 +16,15 @@ use Rattle.calls.specs.declared.DeliverResult.{DeliverResult}
 use Rattle.calls.specs.Replies.{install_means, call_means, deliver_means, report_means, Outcome, install_outcome, call_outcome, deliver_outcome}
 use Rattle.replay.specs.Records.{ReplayReply, replay_means}
 use Rattle.capi.specs.declared.VerdictNumbers.{VerdictNumbers}
-use Rattle.capi.specs.Numbers.{install_shown, call_shown, deliver_shown, verdict_shown, replay_shown}
+use Rattle.capi.specs.Numbers.{read_shown, install_shown, call_shown, deliver_shown, verdict_shown, replay_shown}
+
+module _ (o : Reading) (r : Result Rule Refusal) (is : read_outcome r ≡ o) where
+  pub read_accepted : (rule : Rule) → r ≡ Ok rule → record { accepted = 1; refused = 0; rule = rule } ≡ read_shown o
+  read_accepted rule e = ap read_shown (sym (ap read_outcome e) ∙ is)
+
+  pub read_refused : (x : Refusal) → r ≡ Err x → (n : ℕ) → n ≡ refusal_number x → (rule : Rule) → rule ≡ no_rule
+      → record { accepted = 0; refused = n; rule = rule } ≡ read_shown o
+  read_refused x e n number rule zeros = rw (number, zeros) (ap read_shown (sym (ap read_outcome e) ∙ is))
 
 pub call_shown_lem : (f : AnswerFlags) (r : CallResult) → f.accepted ≡ flag_by (result_number r.answer) → f.refused ≡ refused_by (result_number r.answer)
     → record { accepted = f.accepted; refused = f.refused; judge = r.judge } ≡ call_shown (call_outcome r)
