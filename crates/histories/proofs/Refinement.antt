@@ -15,7 +15,7 @@ use denote.Ref.{Bor}
 use Rattle.std.proofs.Common.{Ok, Err}
 use Rattle.base.specs.declared.Refusal.{Refusal}
 use Rattle.base.specs.declared.Refusal.TheVariants.{TooShort, TooLong, StateCount, SymbolCount, CutPairs, StrayState, BadPairs, BadArcs, TooManySets, PlaceCount, NoPlace, LongChunk, ForeignByte, NoRule, NoBoard, NotDue, EmptyPlace}
-use Rattle.base.specs.Answers.{refusal_number}
+use Rattle.base.specs.Answers.{is_named, refusal_number}
 use Rattle.base.specs.Conditions.{Condition, on, first_of}
 use Rattle.executions.specs.Executions.{Execution, Meets}
 use Rattle.executions.proofs.Executions.{execution_law}
@@ -40,48 +40,71 @@ use Rattle.histories.specs.Claims.{judge_machine, judge_after, replies_to}
 use Rattle.histories.specs.Functions.{AsksStep, MayStep, judge_library}
 
 -- ---- the number of a refusal, as a refusal
--- the number is a refusal's, where there is one
+-- what is said of the number of each condition is said of the first's that holds
+module _ (Said : ℕ → Type 0) where
+  abbrev pub SaidOf : Option ℕ → Type 0
+  SaidOf none = Unit {0}
+  SaidOf (some x) = Said x
+
+  abbrev pub SaidOfEach : List Condition → Type 0
+  SaidOfEach [] = Unit {0}
+  SaidOfEach (on number test ∷ cs) = Said number × SaidOfEach cs
+
+  by_first : (number : ℕ) (test : Bool) (cs : List Condition) → Said number → SaidOf (first_of cs) → SaidOf (first_of (on number test ∷ cs))
+  by_first number true cs a b = a
+  by_first number false cs a b = b
+
+  pub said_of_first : (cs : List Condition) → SaidOfEach cs → SaidOf (first_of cs)
+  said_of_first [] n = tt
+  said_of_first (on number test ∷ cs) n = by_first number test cs n.0 (said_of_first cs n.1)
+
+-- the number is a refusal's
+abbrev pub IsNumber : ℕ → Type 0
+IsNumber x = (r : Refusal) × (refusal_number r ≡ x)
+
+-- it is that of a refusal with a name
+abbrev pub IsNamed : ℕ → Type 0
+IsNamed x = (r : Refusal) × (refusal_number r ≡ x) × (is_named x ≡ true)
+
+-- where there is a number, a refusal with a name has it
 abbrev pub Answerable : Option ℕ → Type 0
-Answerable none = Unit {0}
-Answerable (some x) = (r : Refusal) × (refusal_number r ≡ x)
+Answerable = SaidOf IsNamed
 
--- the number of each condition is a refusal's
+-- the number of each condition is that of one
 abbrev pub Numbered : List Condition → Type 0
-Numbered [] = Unit {0}
-Numbered (on number test ∷ cs) = Answerable (some number) × Numbered cs
-
-by_first : (number : ℕ) (test : Bool) (cs : List Condition) → Answerable (some number) → Answerable (first_of cs) → Answerable (first_of (on number test ∷ cs))
-by_first number true cs a b = a
-by_first number false cs a b = b
+Numbered = SaidOfEach IsNamed
 
 pub answerable : (cs : List Condition) → Numbered cs → Answerable (first_of cs)
-answerable [] n = tt
-answerable (on number test ∷ cs) n = by_first number test cs n.0 (answerable cs n.1)
+answerable = said_of_first IsNamed
+
+pub has_number : (number : Option ℕ) → Answerable number → SaidOf IsNumber number
+has_number none a = tt
+has_number (some x) a = (a.0, a.1)
 
 -- ---- the outcome of a call, as a value of its answer type
 module _ (j next : Judge) where
-  an_installation : (number : Option ℕ) → Answerable number → (sets m : ℕ)
+  an_installation : (number : Option ℕ) → SaidOf IsNumber number → (sets m : ℕ)
       → (r : InstallResult) × (install_outcome r ≡ outcome_by number (installed sets m) j next)
   an_installation none a sets m = (record { answer = Ok (record { sets = sets; starts = m }); judge = next }, refl)
   an_installation (some x) a sets m = (record { answer = Err a.0; judge = j }, ap (λ (y : ℕ). record { reply = refused y; state = j }) a.1)
 
   -- of opening and of withdrawing
-  an_acceptance : (number : Option ℕ) → Answerable number → (r : CallResult) × (call_outcome r ≡ outcome_by number accepted j next)
+  an_acceptance : (number : Option ℕ) → SaidOf IsNumber number → (r : CallResult) × (call_outcome r ≡ outcome_by number accepted j next)
   an_acceptance none a = (record { answer = Ok tt; judge = next }, refl)
   an_acceptance (some x) a = (record { answer = Err a.0; judge = j }, ap (λ (y : ℕ). record { reply = refused y; state = j }) a.1)
 
-  a_delivery : (number : Option ℕ) → Answerable number → (looked : ℕ)
+  a_delivery : (number : Option ℕ) → SaidOf IsNumber number → (looked : ℕ)
       → (r : DeliverResult) × (deliver_outcome r ≡ outcome_by number (delivered looked) j next)
   a_delivery none a looked = (record { answer = Ok looked; judge = next }, refl)
   a_delivery (some x) a looked = (record { answer = Err a.0; judge = j }, ap (λ (y : ℕ). record { reply = refused y; state = j }) a.1)
 
-a_judgement : (v : Judgement) → Answerable (refusal_in v) → (x : Verdict) × (verdict_means x ≡ v)
+a_judgement : (v : Judgement) → SaidOf IsNumber (refusal_in v) → (x : Verdict) × (verdict_means x ≡ v)
 a_judgement (waiting empty) a = (verdict.Waiting empty, refl)
 a_judgement (yes_with count) a = (verdict.Yes count, refl)
 a_judgement (no_with count) a = (verdict.No count, refl)
 a_judgement (refused_with number) a = (verdict.Refused a.0, ap refused_with a.1)
 
-a_report : (r : Reported) → Answerable (refusal_in r.verdict) → (x : Report) × (report_means x ≡ r)
+a_report : (r : Reported) → SaidOf IsNumber (refusal_in r.verdict) → (x : Report) × (report_means x ≡ r)
 a_report r a =
     let v = a_judgement r.verdict a in (
       record { verdict = v.0; bytes = r.bytes; quotient = r.quotient; remainder = r.remainder },
@@ -91,7 +114,7 @@ a_report r a =
 -- a verdict is refused with 21 alone
 answerable_verdict : (lacks none-empty says : Bool) (empty sum bytes : ℕ)
     → Answerable (refusal_in (report_by (cond lacks (refused_with 21) (cond none-empty (cond says (yes_with sum) (no_with sum)) (waiting empty))) bytes).verdict)
-answerable_verdict true none-empty says empty sum bytes = (NoBoard, refl)
+answerable_verdict true none-empty says empty sum bytes = (NoBoard, refl, refl)
 answerable_verdict false false says empty sum bytes = tt
 answerable_verdict false true true empty sum bytes = tt
 answerable_verdict false true false empty sum bytes = tt
@@ -101,7 +124,7 @@ module _ (j : Judge) where
   unfolding install_of install_number
   installation_of rule =
       an_installation j (with_rule rule) (install_number rule)
-      (answerable (rule_conditions rule ++ many_sets rule) ((StateCount, refl), ((SymbolCount, refl), ((StrayState, refl), ((BadArcs, refl), ((TooManySets, refl), tt))))))
+      (has_number (install_number rule) (answerable (rule_conditions rule ++ many_sets rule) ((StateCount, refl, refl), ((SymbolCount, refl, refl), ((StrayState, refl, refl), ((BadArcs, refl, refl), ((TooManySets, refl, refl), tt)))))))
       (built_of rule).setcount
       (built_of rule).startcount
 
@@ -110,8 +133,8 @@ module _ (j : Judge) where
   loading_of f =
       let rule = rule_of f in
       an_installation j (with_rule rule) (load_number f)
-      (answerable (file_conditions f ++ many_sets rule)
-      ((TooShort, refl), ((TooLong, refl), ((StateCount, refl), ((SymbolCount, refl), ((CutPairs, refl), ((StrayState, refl), ((BadPairs, refl), ((BadArcs, refl), ((TooManySets, refl), tt))))))))))
+      (has_number (load_number f) (answerable (file_conditions f ++ many_sets rule)
+      ((TooShort, refl, refl), ((TooLong, refl, refl), ((StateCount, refl, refl), ((SymbolCount, refl, refl), ((CutPairs, refl, refl), ((StrayState, refl, refl), ((BadPairs, refl, refl), ((BadArcs, refl, refl), ((TooManySets, refl, refl), tt)))))))))))
       (built_of rule).setcount
       (built_of rule).startcount
 
@@ -119,27 +142,28 @@ module _ (j : Judge) where
   unfolding open_of
   opening_of n =
       let cs = open_conditions (lacks_rule j) n in
-      an_acceptance j (with_board j (empty_board n)) (first_of cs) (answerable cs ((NoRule, refl), ((PlaceCount, refl), tt)))
+      an_acceptance j (with_board j (empty_board n)) (first_of cs) (has_number (first_of cs) (answerable cs ((NoRule, refl, refl), ((PlaceCount, refl, refl), tt))))
 
   delivery_of : (p v : ℕ) (w : List ℕ) → (r : DeliverResult) × (deliver_outcome r ≡ deliver_of j p v w)
   unfolding deliver_of
   delivery_of p v w =
       let cs = deliver_conditions (lacks_board j) (places_of j.board) p w j.built.k (comes_late j.board p v) in
       a_delivery j (with_board j (filled_at j.board p v (runs_at j p w))) (first_of cs)
-      (answerable cs ((NoBoard, refl), ((NoPlace, refl), ((LongChunk, refl), ((ForeignByte, refl), ((NotDue, refl), tt))))))
+      (has_number (first_of cs) (answerable cs ((NoBoard, refl, refl), ((NoPlace, refl, refl), ((LongChunk, refl, refl), ((ForeignByte, refl, refl), ((NotDue, refl, refl), tt)))))))
       (runs_at j p w).looked
 
   withdrawal_of : (p : ℕ) → (r : CallResult) × (call_outcome r ≡ withdraw_of j p)
   unfolding withdraw_of
   withdrawal_of p =
       let cs = withdraw_conditions (lacks_board j) (places_of j.board) p (is_empty j.board p) in
-      an_acceptance j (with_board j (cleared_at j.board p)) (first_of cs) (answerable cs ((NoBoard, refl), ((NoPlace, refl), ((EmptyPlace, refl), tt))))
+      an_acceptance j (with_board j (cleared_at j.board p)) (first_of cs) (has_number (first_of cs) (answerable cs ((NoBoard, refl, refl), ((NoPlace, refl, refl), ((EmptyPlace, refl, refl), tt)))))
 
   verdict_for : (x : Report) × (report_means x ≡ report_of j)
   unfolding verdict_of
   verdict_for =
       a_report (report_of j)
-      (answerable_verdict (lacks_board j) (eqb (empty_places j.board) 0) (is_yes j) (empty_places j.board) (summed_count j.board) (summed_bytes j.board))
+      (has_number (refusal_in (report_of j).verdict)
+      (answerable_verdict (lacks_board j) (eqb (empty_places j.board) 0) (is_yes j) (empty_places j.board) (summed_count j.board) (summed_bytes j.board)))
 
 -- ---- the library meets the machine
 -- a reference to bytes, somewhere

@@ -20,7 +20,7 @@ use Rattle.automaton.specs.declared.Rule.{Rule}
 use Rattle.build.specs.mirror.Building.{built_of}
 use Rattle.rulecheck.specs.Checking.{rule_conditions}
 use Rattle.calls.specs.Calls.{many_sets, install_number}
-use Rattle.histories.proofs.Refinement.{Answerable, answerable, lent}
+use Rattle.histories.proofs.Refinement.{SaidOf, IsNumber, Answerable, answerable, has_number, lent}
 use Rattle.trays.specs.declared.Tray.{Tray}
 use Rattle.trays.specs.declared.InstallResult.{InstallResult}
 use Rattle.trays.specs.declared.CallResult.{CallResult}
@@ -37,16 +37,16 @@ use Rattle.trayhistories.proofs.EveryList.{every_list}
 
 -- ---- the outcome of a call, as a value of its answer type
 module _ (t next : Tray) where
-  an_installation : (number : Option ℕ) → Answerable number → (sets m : ℕ)
+  an_installation : (number : Option ℕ) → SaidOf IsNumber number → (sets m : ℕ)
       → (r : InstallResult) × (install_outcome r ≡ outcome_by number (installed sets m) t next)
   an_installation none a sets m = (record { answer = Ok (record { sets = sets; starts = m }); tray = next }, refl)
   an_installation (some x) a sets m = (record { answer = Err a.0; tray = t }, ap (λ (y : ℕ). record { reply = refused y; state = t }) a.1)
 
-  a_call : (number : Option ℕ) → Answerable number → (r : CallResult) × (call_outcome r ≡ outcome_by number accepted t next)
+  a_call : (number : Option ℕ) → SaidOf IsNumber number → (r : CallResult) × (call_outcome r ≡ outcome_by number accepted t next)
   a_call none a = (record { answer = Ok tt; tray = next }, refl)
   a_call (some x) a = (record { answer = Err a.0; tray = t }, ap (λ (y : ℕ). record { reply = refused y; state = t }) a.1)
 
-a_judgement : (v : Judgement) → Answerable (refusal_in v) → (x : TrayVerdict) × (verdict_means x ≡ v)
+a_judgement : (v : Judgement) → SaidOf IsNumber (refusal_in v) → (x : TrayVerdict) × (verdict_means x ≡ v)
 a_judgement (waiting empty) a = (verdict.Waiting empty, refl)
 a_judgement says_yes a = (verdict.Yes, refl)
 a_judgement says_no a = (verdict.No, refl)
@@ -55,7 +55,7 @@ a_judgement (refused_with number) a = (verdict.Refused a.0, ap refused_with a.1)
 -- a verdict is refused with 21 alone
 answerable_verdict : (lacks none-empty says : Bool) (empty : ℕ)
     → Answerable (refusal_in (cond lacks (refused_with 21) (cond none-empty (cond says says_yes says_no) (waiting empty))))
-answerable_verdict true none-empty says empty = (NoBoard, refl)
+answerable_verdict true none-empty says empty = (NoBoard, refl, refl)
 answerable_verdict false false says empty = tt
 answerable_verdict false true true empty = tt
 answerable_verdict false true false empty = tt
@@ -65,40 +65,42 @@ module _ (t : Tray) where
   answerable_rule : (rule : Rule) → Answerable (install_number rule)
   unfolding install_number
   answerable_rule rule =
-      answerable (rule_conditions rule ++ many_sets rule) ((StateCount, refl), ((SymbolCount, refl), ((StrayState, refl), ((BadArcs, refl), ((TooManySets, refl), tt)))))
+      answerable (rule_conditions rule ++ many_sets rule) ((StateCount, refl, refl), ((SymbolCount, refl, refl), ((StrayState, refl, refl), ((BadArcs, refl, refl), ((TooManySets, refl, refl), tt)))))
 
   row_of_lem : (rule : Rule) → (r : InstallResult) × (install_outcome r ≡ install_row_of t rule)
   unfolding install_row_of
   row_of_lem rule =
-      an_installation t (with_row t rule) (install_number rule) (answerable_rule rule) (built_of rule).setcount (built_of rule).startcount
+      an_installation t (with_row t rule) (install_number rule) (has_number (install_number rule) (answerable_rule rule)) (built_of rule).setcount (built_of rule).startcount
 
   column_of_lem : (rule : Rule) → (r : InstallResult) × (install_outcome r ≡ install_column_of t rule)
   unfolding install_column_of
   column_of_lem rule =
-      an_installation t (with_column t rule) (install_number rule) (answerable_rule rule) (built_of rule).setcount (built_of rule).startcount
+      an_installation t (with_column t rule) (install_number rule) (has_number (install_number rule) (answerable_rule rule)) (built_of rule).setcount (built_of rule).startcount
 
   opening_of : (w n : ℕ) → (r : CallResult) × (call_outcome r ≡ open_of t w n)
   unfolding open_of
   opening_of w n =
       let cs = open_conditions (lacks_rule t) w n in
-      a_call t (with_board t (empty_board w n)) (first_of cs) (answerable cs ((NoRule, refl), ((Width, refl), ((PlaceCount, refl), tt))))
+      a_call t (with_board t (empty_board w n)) (first_of cs) (has_number (first_of cs) (answerable cs ((NoRule, refl, refl), ((Width, refl, refl), ((PlaceCount, refl, refl), tt)))))
 
   delivery_of : (p : ℕ) (b : List ℕ) → (r : CallResult) × (call_outcome r ≡ deliver_of t p b)
   unfolding deliver_of
   delivery_of p b =
       let cs = deliver_conditions (lacks_board t) (bands_of t.board) (width_of t.board) t.row.k t.column.k (not (is_empty t.board p)) p b in
       a_call t (with_board t (filled_at t.board p b)) (first_of cs)
-      (answerable cs ((NoBoard, refl), ((NoPlace, refl), ((NotRows, refl), ((ForeignByte, refl), ((NotDue, refl), tt))))))
+      (has_number (first_of cs) (answerable cs ((NoBoard, refl, refl), ((NoPlace, refl, refl), ((NotRows, refl, refl), ((ForeignByte, refl, refl), ((NotDue, refl, refl), tt)))))))
 
   withdrawal_of : (p : ℕ) → (r : CallResult) × (call_outcome r ≡ withdraw_of t p)
   unfolding withdraw_of
   withdrawal_of p =
       let cs = withdraw_conditions (lacks_board t) (bands_of t.board) (is_empty t.board p) p in
-      a_call t (with_board t (cleared_at t.board p)) (first_of cs) (answerable cs ((NoBoard, refl), ((NoPlace, refl), ((EmptyPlace, refl), tt))))
+      a_call t (with_board t (cleared_at t.board p)) (first_of cs) (has_number (first_of cs) (answerable cs ((NoBoard, refl, refl), ((NoPlace, refl, refl), ((EmptyPlace, refl, refl), tt)))))
 
   verdict_for : (x : TrayVerdict) × (verdict_means x ≡ verdict_of t)
   unfolding verdict_of
-  verdict_for = a_judgement (verdict_of t) (answerable_verdict (lacks_board t) (eqb (empty_bands t.board) 0) (is_yes t) (empty_bands t.board))
+  verdict_for =
+      a_judgement (verdict_of t)
+      (has_number (refusal_in (verdict_of t)) (answerable_verdict (lacks_board t) (eqb (empty_bands t.board) 0) (is_yes t) (empty_bands t.board)))
 
 -- ---- the library meets the machine
 -- an outcome is its reply and its state
