@@ -1,11 +1,13 @@
 -- Every number of a byte is that of a refusal: of the one with a name that has it, else of the one
--- without a name; looked at for each of the 256. Assumes nothing.
+-- without a name; looked at for each of the 256. And every refusal with a name has a number that is
+-- said to have one; looked at for each of the 34. Assumes nothing.
 --
 --   names        the refusals with a name
 --   with_number  the first of a list with the number, or the one without a name
 --   missed       that has another number
 use mathlib.Core.Path.{◌≡◌, refl, sym, subst}
 use Rattle.std.specs.Prelude.{◌≢◌}
+use mathlib.Core.Logic.{◌⊎◌, inl, inr}
 use mathlib.Core.Bool.{Bool, true, false, cond, not}
 use mathlib.Core.List.{List, [], ◌∷◌}
 use Prim.Native.Nat.{ℕ, ◌<◌}
@@ -42,6 +44,43 @@ hit false e = sym e
 
 pub any_number : (n : ℕ) → n < 256 → (r : Refusal) × (refusal_number r ≡ n)
 any_number n l = (with_number names n, eqb-true (refusal_number (with_number names n)) n (hit (eqb (refusal_number (with_number names n)) n) (none_at missed 256 n none_missed l)))
+
+pub named_or_other : (r : Refusal) → (is_named (refusal_number r) ≡ true) ⊎ ((n : ℕ) × (r ≡ Other n))
+named_or_other TooShort = inl refl
+named_or_other TooLong = inl refl
+named_or_other StateCount = inl refl
+named_or_other SymbolCount = inl refl
+named_or_other CutPairs = inl refl
+named_or_other StrayState = inl refl
+named_or_other BadPairs = inl refl
+named_or_other BadArcs = inl refl
+named_or_other TooManySets = inl refl
+named_or_other PlaceCount = inl refl
+named_or_other NoPlace = inl refl
+named_or_other LongChunk = inl refl
+named_or_other ForeignByte = inl refl
+named_or_other NoRule = inl refl
+named_or_other NoBoard = inl refl
+named_or_other NotDue = inl refl
+named_or_other EmptyPlace = inl refl
+named_or_other LongPattern = inl refl
+named_or_other NoPattern = inl refl
+named_or_other TooManyLetters = inl refl
+named_or_other TooManyStates = inl refl
+named_or_other TooManyMappings = inl refl
+named_or_other TooManyReached = inl refl
+named_or_other OtherSymbols = inl refl
+named_or_other TooManyMerged = inl refl
+named_or_other Width = inl refl
+named_or_other NotRows = inl refl
+named_or_other NoForm = inl refl
+named_or_other NoSeed = inl refl
+named_or_other BrokenSummary = inl refl
+named_or_other OtherRule = inl refl
+named_or_other MissingEnd = inl refl
+named_or_other TooManyPairs = inl refl
+named_or_other NotSaved = inl refl
+named_or_other (Other n) = inr (n, refl)
 
 unnamed : (b : Bool) (n m : ℕ) → is_named n ≡ b → is_named m ≡ true → cond b 0 n ≢ m
 unnamed true n m e named = λ z. not_both (subst (λ (x : ℕ). is_named x ≡ true) (sym z) named) refl

@@ -1,5 +1,5 @@
 -- What is claimed of numbered conditions and of refusals; proofs/Claims.antt proves it.
-use Rattle.std.specs.Prelude.{◌≡◌, ◌≢◌, ◌↔◌, true, List, ℕ, ◌<◌}
+use Rattle.std.specs.Prelude.{◌≡◌, ◌≢◌, ◌↔◌, ◌⊎◌, true, List, ℕ, ◌<◌}
 use Rattle.std.proofs.Math.Option.{none, some}
 use Rattle.base.specs.declared.Refusal.{Refusal}
 use Rattle.base.specs.declared.Refusal.TheVariants.{Other}
@@ -15,5 +15,7 @@ pub record Claims : Type 0 where
 pub record RefusalClaims : Type 0 where
   -- whatever number a byte has, there is a refusal with it
   pub any_number : (n : ℕ) → n < 256 → (r : Refusal) × (refusal_number r ≡ n)
+  -- a refusal has a number that a name has, or it is the one without a name
+  pub named_or_other : (r : Refusal) → (is_named (refusal_number r) ≡ true) ⊎ ((n : ℕ) × (r ≡ Other n))
   -- a number that a name has is told by its name alone
   pub name_alone : (n m : ℕ) → is_named m ≡ true → refusal_number (Other n) ≢ m

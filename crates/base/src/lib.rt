@@ -51,8 +51,8 @@ pub enum Refusal {
     // of a comparison, and of a saved judge
     TooManyPairs,
     NotSaved,
-    // of no call: any other number, since who writes or shows a refusal takes any. Where a name above
-    // has the number, it is told as 0.
+    // of no call: who writes or shows a refusal takes any number, so one that no name above has; one
+    // that a name has is told as 0
     Other(u8),
 }
 
