@@ -81,6 +81,9 @@ pub has_number : (number : Option ℕ) → Answerable number → SaidOf IsNumber
 has_number none a = tt
 has_number (some x) a = (a.0, a.1)
 
+pub first_has_number : (cs : List Condition) → Numbered cs → SaidOf IsNumber (first_of cs)
+first_has_number cs n = has_number (first_of cs) (answerable cs n)
+
 -- ---- the outcome of a call, as a value of its answer type
 module _ (j next : Judge) where
   an_installation : (number : Option ℕ) → SaidOf IsNumber number → (sets m : ℕ)
@@ -124,7 +127,8 @@ module _ (j : Judge) where
   unfolding install_of install_number
   installation_of rule =
       an_installation j (with_rule rule) (install_number rule)
-      (has_number (install_number rule) (answerable (rule_conditions rule ++ many_sets rule) ((StateCount, refl, refl), ((SymbolCount, refl, refl), ((StrayState, refl, refl), ((BadArcs, refl, refl), ((TooManySets, refl, refl), tt)))))))
+      (first_has_number (rule_conditions rule ++ many_sets rule)
+      ((StateCount, refl, refl), ((SymbolCount, refl, refl), ((StrayState, refl, refl), ((BadArcs, refl, refl), ((TooManySets, refl, refl), tt))))))
       (built_of rule).setcount
       (built_of rule).startcount
 
@@ -133,8 +137,8 @@ module _ (j : Judge) where
   loading_of f =
       let rule = rule_of f in
       an_installation j (with_rule rule) (load_number f)
-      (has_number (load_number f) (answerable (file_conditions f ++ many_sets rule)
-      ((TooShort, refl, refl), ((TooLong, refl, refl), ((StateCount, refl, refl), ((SymbolCount, refl, refl), ((CutPairs, refl, refl), ((StrayState, refl, refl), ((BadPairs, refl, refl), ((BadArcs, refl, refl), ((TooManySets, refl, refl), tt)))))))))))
+      (first_has_number (file_conditions f ++ many_sets rule)
+      ((TooShort, refl, refl), ((TooLong, refl, refl), ((StateCount, refl, refl), ((SymbolCount, refl, refl), ((CutPairs, refl, refl), ((StrayState, refl, refl), ((BadPairs, refl, refl), ((BadArcs, refl, refl), ((TooManySets, refl, refl), tt))))))))))
       (built_of rule).setcount
       (built_of rule).startcount
 
@@ -142,21 +146,21 @@ module _ (j : Judge) where
   unfolding open_of
   opening_of n =
       let cs = open_conditions (lacks_rule j) n in
-      an_acceptance j (with_board j (empty_board n)) (first_of cs) (has_number (first_of cs) (answerable cs ((NoRule, refl, refl), ((PlaceCount, refl, refl), tt))))
+      an_acceptance j (with_board j (empty_board n)) (first_of cs) (first_has_number cs ((NoRule, refl, refl), ((PlaceCount, refl, refl), tt)))
 
   delivery_of : (p v : ℕ) (w : List ℕ) → (r : DeliverResult) × (deliver_outcome r ≡ deliver_of j p v w)
   unfolding deliver_of
   delivery_of p v w =
       let cs = deliver_conditions (lacks_board j) (places_of j.board) p w j.built.k (comes_late j.board p v) in
       a_delivery j (with_board j (filled_at j.board p v (runs_at j p w))) (first_of cs)
-      (has_number (first_of cs) (answerable cs ((NoBoard, refl, refl), ((NoPlace, refl, refl), ((LongChunk, refl, refl), ((ForeignByte, refl, refl), ((NotDue, refl, refl), tt)))))))
+      (first_has_number cs ((NoBoard, refl, refl), ((NoPlace, refl, refl), ((LongChunk, refl, refl), ((ForeignByte, refl, refl), ((NotDue, refl, refl), tt))))))
       (runs_at j p w).looked
 
   withdrawal_of : (p : ℕ) → (r : CallResult) × (call_outcome r ≡ withdraw_of j p)
   unfolding withdraw_of
   withdrawal_of p =
       let cs = withdraw_conditions (lacks_board j) (places_of j.board) p (is_empty j.board p) in
-      an_acceptance j (with_board j (cleared_at j.board p)) (first_of cs) (has_number (first_of cs) (answerable cs ((NoBoard, refl, refl), ((NoPlace, refl, refl), ((EmptyPlace, refl, refl), tt)))))
+      an_acceptance j (with_board j (cleared_at j.board p)) (first_of cs) (first_has_number cs ((NoBoard, refl, refl), ((NoPlace, refl, refl), ((EmptyPlace, refl, refl), tt))))
 
   verdict_for : (x : Report) × (report_means x ≡ report_of j)
   unfolding verdict_of

@@ -20,7 +20,7 @@ use Rattle.automaton.specs.declared.Rule.{Rule}
 use Rattle.build.specs.mirror.Building.{built_of}
 use Rattle.rulecheck.specs.Checking.{rule_conditions}
 use Rattle.calls.specs.Calls.{many_sets, install_number}
-use Rattle.histories.proofs.Refinement.{SaidOf, IsNumber, Answerable, answerable, has_number, lent}
+use Rattle.histories.proofs.Refinement.{SaidOf, IsNumber, Answerable, answerable, has_number, first_has_number, lent}
 use Rattle.trays.specs.declared.Tray.{Tray}
 use Rattle.trays.specs.declared.InstallResult.{InstallResult}
 use Rattle.trays.specs.declared.CallResult.{CallResult}
@@ -81,20 +81,20 @@ module _ (t : Tray) where
   unfolding open_of
   opening_of w n =
       let cs = open_conditions (lacks_rule t) w n in
-      a_call t (with_board t (empty_board w n)) (first_of cs) (has_number (first_of cs) (answerable cs ((NoRule, refl, refl), ((Width, refl, refl), ((PlaceCount, refl, refl), tt)))))
+      a_call t (with_board t (empty_board w n)) (first_of cs) (first_has_number cs ((NoRule, refl, refl), ((Width, refl, refl), ((PlaceCount, refl, refl), tt))))
 
   delivery_of : (p : ℕ) (b : List ℕ) → (r : CallResult) × (call_outcome r ≡ deliver_of t p b)
   unfolding deliver_of
   delivery_of p b =
       let cs = deliver_conditions (lacks_board t) (bands_of t.board) (width_of t.board) t.row.k t.column.k (not (is_empty t.board p)) p b in
       a_call t (with_board t (filled_at t.board p b)) (first_of cs)
-      (has_number (first_of cs) (answerable cs ((NoBoard, refl, refl), ((NoPlace, refl, refl), ((NotRows, refl, refl), ((ForeignByte, refl, refl), ((NotDue, refl, refl), tt)))))))
+      (first_has_number cs ((NoBoard, refl, refl), ((NoPlace, refl, refl), ((NotRows, refl, refl), ((ForeignByte, refl, refl), ((NotDue, refl, refl), tt))))))
 
   withdrawal_of : (p : ℕ) → (r : CallResult) × (call_outcome r ≡ withdraw_of t p)
   unfolding withdraw_of
   withdrawal_of p =
       let cs = withdraw_conditions (lacks_board t) (bands_of t.board) (is_empty t.board p) p in
-      a_call t (with_board t (cleared_at t.board p)) (first_of cs) (has_number (first_of cs) (answerable cs ((NoBoard, refl, refl), ((NoPlace, refl, refl), ((EmptyPlace, refl, refl), tt)))))
+      a_call t (with_board t (cleared_at t.board p)) (first_of cs) (first_has_number cs ((NoBoard, refl, refl), ((NoPlace, refl, refl), ((EmptyPlace, refl, refl), tt))))
 
   verdict_for : (x : TrayVerdict) × (verdict_means x ≡ verdict_of t)
   unfolding verdict_of
